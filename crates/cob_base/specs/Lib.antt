@@ -1,0 +1,11 @@
+pub mod Bytes
+pub mod Lines
+pub mod Reserved
+pub mod Token
+pub mod Form
+pub mod EntryForm
+pub mod Phrases
+pub mod FileEntries
+pub mod DataEntries
+pub mod ScreenEntries
+pub mod Front
