@@ -1,0 +1,10 @@
+pub mod Sums
+pub mod Journals
+pub mod Parts
+pub mod Draws
+pub mod GivesUp
+pub mod Opens
+pub mod Ends
+pub mod Asks
+pub mod Passes
+pub mod Sentences
