@@ -1,0 +1,3 @@
+pub mod Cutting
+pub mod Directives
+pub mod Reading
