@@ -1,0 +1,11 @@
+pub mod Cells
+pub mod Takes
+pub mod Wishes
+pub mod Cuts
+pub mod Quotes
+pub mod Stages
+pub mod Endings
+pub mod Trims
+pub mod Opens
+pub mod Joins
+pub mod Sentences

@@ -1,0 +1,10 @@
+pub mod Joined
+pub mod Quoted
+pub mod Runs
+pub mod Pictures
+pub mod Words
+pub mod Text
+pub mod Entries
+pub mod Taking
+pub mod Cutting
+pub mod Joining
