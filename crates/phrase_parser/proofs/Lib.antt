@@ -1,0 +1,4 @@
+pub mod FormLaws
+pub mod EntryLaws
+pub mod Lists
+pub mod Dispatch

@@ -1,0 +1,4 @@
+pub mod Reading
+pub mod EntryReading
+pub mod Repeats
+pub mod Choices

@@ -1,0 +1,22 @@
+//! Reading words and entries by the forms of the grammar: the phrases that the divisions share, and lists of anything.
+#![tactic(auto)]
+
+mod entries;
+mod faults;
+mod listed;
+mod operands;
+mod phrases;
+mod words;
+
+pub use entries::{entry, first_opens, whole_entry};
+pub use faults::{EntryFault, PhraseFault, found, no_fit};
+pub use listed::{many, many_entries, some, some_entries};
+pub use operands::{
+    constant, figurative_of, opens_constant, opens_operand, opens_qualifier, operand, qualifier,
+    qualifiers, reference,
+};
+pub use phrases::sharing;
+pub use words::{
+    expect, expect_mark, from_stop, full_stop, int, int_of, name, next_is, noise, opens_int,
+    opens_name, past, same_key, same_mark,
+};
