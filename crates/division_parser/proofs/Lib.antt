@@ -1,0 +1,5 @@
+pub mod FileDispatch
+pub mod DataDispatch
+pub mod ScreenDispatch
+pub mod FrontDispatch
+pub mod FrontAnswers
