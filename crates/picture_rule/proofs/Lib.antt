@@ -1,0 +1,15 @@
+pub mod Fronts
+pub mod Extends
+pub mod Parts
+pub mod Numbers
+pub mod Endings
+pub mod Bodies
+pub mod EditedParts
+pub mod Apart
+pub mod Outlines
+pub mod Results
+pub mod Places
+pub mod Amounts
+pub mod Bytes
+pub mod Spread
+pub mod ReadsBack

@@ -1,0 +1,30 @@
+ghost use Rattle.std.specs.Prelude.{◌≡◌};
+
+use crate::PictureKind;
+use cob_base::NoMemory;
+
+/// Why a text gives no picture.
+#[derive(Clone, Copy, Debug, PartialEq, Eq)]
+pub enum PictureFault {
+    /// No form of a picture fits.
+    NoPicture,
+    /// A form fits, but it is past its limits. `size` is the number of bytes that the text spells, or `u32::MAX` where there
+    /// are more.
+    TooWide {
+        kind: PictureKind,
+        size: u32,
+        signed: bool,
+    },
+    /// Want of memory.
+    NoMemory,
+}
+
+impl From<NoMemory> for PictureFault {
+    ghost use Rattle.picture_rule.specs.declared.fault.PictureFault.TheVariants as faults;
+
+    ghost from_gives = { λ _ fault. fault ≡ faults.NoMemory };
+
+    fn from(_: NoMemory) -> Self {
+        PictureFault::NoMemory
+    }
+}
