@@ -1,0 +1,8 @@
+pub mod Bests
+pub mod Counts
+pub mod Groups
+pub mod Totals
+pub mod Gather
+pub mod JudgedRows
+pub mod Places
+pub mod PlacedRows

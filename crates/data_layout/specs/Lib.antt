@@ -1,0 +1,10 @@
+pub mod Rows
+pub mod Storage
+pub mod Walk
+pub mod Best
+pub mod Judge
+pub mod Gathered
+pub mod Faults
+pub mod Layout
+pub mod Outcome
+pub mod Placed
