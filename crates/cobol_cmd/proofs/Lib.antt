@@ -1,0 +1,5 @@
+pub mod Tails
+pub mod Shown
+pub mod Lines
+pub mod Judged
+pub mod Checks

@@ -1,0 +1,5 @@
+use Rattle.std.proofs.Common.{refl}
+use Rattle.cobol_cmd.proofs.small.after_heading.Goals as goal
+
+pub returns-in_err-rest-clause-none : goal.returns-in_err-rest-clause-none
+returns-in_err-rest-clause-none c = λ none program rest same. c.in_err-rest.ensures.none refl _ same
