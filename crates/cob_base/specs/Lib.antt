@@ -9,3 +9,8 @@ pub mod FileEntries
 pub mod DataEntries
 pub mod ScreenEntries
 pub mod Front
+pub mod Expressions
+pub mod Conditions
+pub mod StatementPhrases
+pub mod Statements
+pub mod Procedure

@@ -8,12 +8,12 @@ use Rattle.cob_base.specs.declared.tokens.SeenEntry.{SeenEntry}
 use Rattle.cob_base.specs.declared.word.Entry.{Entry}
 use Rattle.cob_base.specs.declared.divisions.Front.{Front}
 use Rattle.cob_base.specs.Token.{seen_entry}
-use Rattle.cob_base.specs.EntryForm.{Entries, Reads, Stops, line_of_stop, last_line}
+use Rattle.cob_base.specs.EntryForm.{Entries, Reads, Stops, line_of_stop}
 use Rattle.cob_base.specs.Front.{front}
 use Rattle.phrase_parser.specs.EntryReading.{read_entries}
 use Rattle.phrase_parser.proofs.EntryLaws as laws
 use Rattle.division_parser.specs.Answer.{ReadsAs, StopsAs, Answers}
-use Rattle.division_parser.specs.Faults.{line_or_last, fault_of}
+use Rattle.phrase_parser.specs.Faults.{line_or_last, fault_of}
 
 pub line_at_is : (es at : Entries) → line_or_last es (laws.line_at at) ≡ line_of_stop es at
 line_at_is es [] = refl
@@ -56,12 +56,3 @@ pub fewer : (entries : List Entry) (read : Front) (rest : Entries) → read_entr
 fewer entries read rest h =
     let r : Reads front (map seen_entry entries) read rest = subst (laws.Sound (Reads front (map seen_entry entries)) (λ r at. Stops front r at (map seen_entry entries))) h (laws.sound front (map seen_entry entries)) in
     omega (arith, laws.takes front (map seen_entry entries) read rest r, length-map entries seen_entry)
-
--- ---- the last entry
-
-pub last_at : (es : Entries) (n : ℕ) (x : SeenEntry) → length es ≡ n + 1 → (get_or es n x).line ≡ last_line es
-last_at [] n x h = absurd (omega (arith, h))
-last_at (e ∷ []) zero x h = refl
-last_at (e ∷ []) (suc n) x h = absurd (omega (arith, h))
-last_at (e ∷ f ∷ es) zero x h = absurd (omega (arith, h))
-last_at (e ∷ f ∷ es) (suc n) x h = last_at (f ∷ es) n x (omega (arith, h))

@@ -1,17 +1,15 @@
 //! The front of a program, up to and with the header of the procedure division.
 
 ghost use Rattle.std.specs.Prelude.{◌≡◌, ◌^◌, ◌<◌, length};
-ghost use Rattle.cob_base.specs.EntryForm.{last_line};
 ghost use Rattle.cob_base.specs.Front as front;
 ghost use Rattle.division_parser.specs.Answer.{Answers, IsDefinite};
-ghost use Rattle.division_parser.specs.Faults.{fault_of};
 ghost use Rattle.phrase_parser.specs.EntryReading.{EntryGives, read_entries};
 
 use crate::data_division::optional_data_division;
 use crate::environment_division::optional_environment;
 use crate::headers::{name_entry, paragraph_header, section_header};
-use cob_base::{ByteText, Entry, Front, Keyword, Line, Misfit, ParseFault, SeenEntry, see_entries};
-use phrase_parser::EntryFault;
+use cob_base::{ByteText, Entry, Front, Keyword, ParseFault, SeenEntry, see_entries};
+use phrase_parser::{EntryFault, fault_of};
 use std::alloc::Global;
 
 /// A front, and how many entries it takes, up to and with the header of the procedure division.
@@ -51,30 +49,6 @@ fn front(alloc: Global, entries: &[SeenEntry]) -> Result<(Front, &[SeenEntry]), 
         },
         rest,
     ))
-}
-
-/// The line of the last entry, or 1 where there is none.
-fn last_line(entries: &[SeenEntry]) -> Line
-    ensures { result ≡ last_line entries.now }
-{
-    match entries {
-        [.., last] => last.line,
-        [] => Line(1),
-    }
-}
-
-/// The fault of entries that stop.
-fn fault_of(entries: &[SeenEntry], reason: Misfit, line: Option<Line>) -> ParseFault
-    ensures { result ≡ fault_of entries.now reason line }
-{
-    let line = match line {
-        Some(line) => line,
-        None => last_line(entries),
-    };
-    match reason {
-        Misfit::Nesting => ParseFault::Nesting(line),
-        Misfit::NoFit => ParseFault::NoEntry(line),
-    }
 }
 
 /// Reads the identification, environment and data divisions that a program's entries begin with, up to and with the header

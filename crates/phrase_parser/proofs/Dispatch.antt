@@ -1,12 +1,12 @@
 -- What the next words choose is what the grammar chooses there.
-use Rattle.std.proofs.Common.{◌≡◌, ℕ, zero, suc, Bool, List, [], ◌∷◌, Ok, true, false, refl}
+use Rattle.std.proofs.Common.{◌≡◌, ℕ, zero, suc, Bool, [], ◌∷◌, true, false, refl}
 use Rattle.std.specs.Prelude.{◌||◌, ◌&&◌}
 use Rattle.cob_base.specs.declared.keywords.Keyword.TheVariants as k
 use Rattle.cob_base.specs.declared.keywords.Verb.TheVariants as verbs
 use Rattle.cob_base.specs.declared.keywords.Mark.TheVariants as marks
-use Rattle.cob_base.specs.declared.tokens.Token.TheVariants.{Key, Verb, Name, Text, Number, Mark as Sign}
+use Rattle.cob_base.specs.declared.tokens.Token.TheVariants.{Key, Verb, Text, Number, Mark as Sign}
 use Rattle.cob_base.specs.Form.Form.{optional, some}
-use Rattle.cob_base.specs.Form.{Form, Words, is_there, opens}
+use Rattle.cob_base.specs.Form.{Words, is_there, opens}
 use Rattle.cob_base.specs.Phrases.{key, noise, same_key, same_mark, name, int, qualifier, offset, subscript, subscripted, reference_within, reference, figurative_of, figurative, constant_within, constant, operand_within, operand}
 use Rattle.cob_base.specs.FileEntries.{sharing_within, sharing}
 use Rattle.phrase_parser.specs.Reading.{read}

@@ -1,11 +1,11 @@
 -- Reading a form of entries gives what they read as, and stops where they stop: once for all forms.
-use Rattle.std.proofs.Common.{◌≡◌, ℕ, zero, suc, ◌≤◌, ◌<◌, ◌⊎◌, inl, inr, Bool, true, false, cond, List, [], ◌∷◌, length, Option, Some, None, Result, Ok, Err, ◌++◌, append_assoc, refl, sym, ap, subst, ◌∙◌, arith}
+use Rattle.std.proofs.Common.{◌≡◌, ℕ, zero, suc, ◌≤◌, ◌<◌, ◌⊎◌, inl, inr, Bool, true, false, cond, List, [], ◌∷◌, length, Option, Some, None, Ok, Err, ◌++◌, append_assoc, refl, sym, ap, ◌∙◌, arith}
 use Rattle.std.specs.Prelude.{not, ◌||◌, ◌&&◌}
 use Rattle.cob_base.specs.declared.parse_fault.Misfit.{Misfit}
 use Rattle.cob_base.specs.declared.parse_fault.Misfit.TheVariants.{Nesting, NoFit}
 use Rattle.cob_base.specs.declared.line.Line.{Line}
 use Rattle.cob_base.specs.declared.tokens.SeenEntry.{SeenEntry}
-use Rattle.cob_base.specs.Form.{Form, Words, opens, Spells, Deep}
+use Rattle.cob_base.specs.Form.{Form, Spells, Deep}
 use Rattle.cob_base.specs.EntryForm.{EntryForm, Entries, opens_entry, begins, Fits, AreMore, AreSome, AreOptional, StopsMore, Reads, Misfits, Stops}
 use Rattle.phrase_parser.specs.Reading.{Outcome, ◌>>=◌, read_more, read_some, read_optional, read}
 use Rattle.phrase_parser.specs.EntryReading.{Stop, EntryOutcome, read_whole, read_entry, read_entries}

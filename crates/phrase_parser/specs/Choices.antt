@@ -1,5 +1,5 @@
 -- What the next words choose, by cases, as the code does.
-use Rattle.std.specs.Prelude.{ℕ, zero, suc, Bool, true, false, ◌||◌, List, ◌∷◌, Result, Ok, Err, Option, Some, None}
+use Rattle.std.specs.Prelude.{ℕ, zero, suc, Bool, true, false, ◌∷◌, Ok, Err, Option, Some, None}
 use Rattle.cob_base.specs.declared.parse_fault.Misfit.TheVariants.{Nesting, NoFit}
 use Rattle.cob_base.specs.declared.keywords.Keyword.TheVariants as k
 use Rattle.cob_base.specs.declared.keywords.Mark.TheVariants as marks
@@ -11,8 +11,7 @@ use Rattle.cob_base.specs.declared.operands.Offset.TheVariants as offsets
 use Rattle.cob_base.specs.declared.operands.Subscript.{Subscript}
 use Rattle.cob_base.specs.declared.operands.Constant.{Constant}
 use Rattle.cob_base.specs.declared.operands.Constant.TheVariants as constants
-use Rattle.cob_base.specs.declared.tokens.Token.{Token}
-use Rattle.cob_base.specs.declared.tokens.Token.TheVariants.{Key, Verb, Name, Text, Number, Mark as Sign}
+use Rattle.cob_base.specs.declared.tokens.Token.TheVariants.{Key, Verb, Text, Number, Mark as Sign}
 use Rattle.cob_base.specs.Form.{Words, before, is_there}
 use Rattle.cob_base.specs.Phrases as phrases
 use Rattle.phrase_parser.specs.Reading.{Outcome, ◌>>=◌, read_as, read}

@@ -1,10 +1,10 @@
 -- Reading a form of entries from the first to the last: what the parser is held against. The grammar does not rest on it.
-use Rattle.std.specs.Prelude.{◌≡◌, Bool, true, false, List, [], ◌∷◌, Option, Some, None, Result, Ok, Err}
+use Rattle.std.specs.Prelude.{◌≡◌, Bool, false, [], ◌∷◌, Option, Some, None, Result, Ok, Err}
 use Rattle.cob_base.specs.declared.parse_fault.Misfit.{Misfit}
 use Rattle.cob_base.specs.declared.parse_fault.Misfit.TheVariants.{NoFit}
 use Rattle.cob_base.specs.declared.line.Line.{Line}
 use Rattle.cob_base.specs.declared.tokens.SeenEntry.{SeenEntry}
-use Rattle.cob_base.specs.Form.{Form, Words}
+use Rattle.cob_base.specs.Form.{Words}
 use Rattle.cob_base.specs.EntryForm.{EntryForm, Entries, begins}
 use Rattle.phrase_parser.specs.declared.faults.EntryFault.{EntryFault}
 use Rattle.phrase_parser.specs.declared.faults.EntryFault.TheVariants as faults

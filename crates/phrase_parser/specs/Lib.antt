@@ -2,3 +2,4 @@ pub mod Reading
 pub mod EntryReading
 pub mod Repeats
 pub mod Choices
+pub mod Faults

@@ -1,4 +1,4 @@
-ghost use Rattle.std.specs.Prelude.{◌≡◌, List, Bool};
+ghost use Rattle.std.specs.Prelude.{◌≡◌, ◌∷◌, List, Bool, IfOk};
 ghost use Rattle.cob_base.specs.declared.tokens.Token.{Token};
 ghost use Rattle.cob_base.specs.declared.tokens.SeenEntry.{SeenEntry};
 ghost use Rattle.phrase_parser.specs.Reading.{Gives, Outcome, read_some, read_many};
@@ -7,7 +7,7 @@ ghost use Rattle.phrase_parser.specs.Repeats.{Tests, Repeats, RepeatsEntries};
 
 use crate::{EntryFault, PhraseFault};
 use cob_base::{Items, SeenEntry, Token};
-use std::alloc::Global;
+use std::alloc::{AllocError, Global};
 
 /// One or more of what `one` reads, which go on as long as the next words open one more.
 pub fn some<
@@ -115,4 +115,14 @@ pub fn many_entries<
     }
     let (found, rest) = some_entries(alloc, begins, one, entries)?;
     Ok((found, rest))
+}
+
+/// The list of the first and the others.
+pub fn joined<T: Drop>(alloc: Global, first: T, more: Items<T>) -> Result<Items<T>, AllocError>
+    ensures { IfOk result (λ all. all ≡ first ∷ more) }
+{
+    let mut all = Items::new(alloc);
+    all.push(first)?;
+    all.append(more)?;
+    Ok(all)
 }

@@ -2,7 +2,7 @@ use Rattle.std.proofs.Common.{sym, ◌∙◌, ap}
 use Rattle.cob_base.specs.Front.{front}
 use Rattle.phrase_parser.proofs.EntryLaws as laws
 use Rattle.division_parser.proofs.FrontAnswers.{line_at_is}
-use Rattle.division_parser.specs.Faults.{line_or_last}
+use Rattle.phrase_parser.specs.Faults.{line_or_last}
 use Rattle.division_parser.proofs.fronts.fronts_are_definite.Goals as goal
 
 pub returns : goal.returns

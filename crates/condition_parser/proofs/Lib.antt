@@ -1,0 +1,3 @@
+pub mod ExpressionDispatch
+pub mod ConditionDispatch
+pub mod LoopDispatch

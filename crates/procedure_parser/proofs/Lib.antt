@@ -1,0 +1,4 @@
+pub mod PhraseDispatch
+pub mod StatementDispatch
+pub mod ProcedureDispatch
+pub mod ProcedureAnswers

@@ -1,0 +1,4 @@
+pub mod Nests
+pub mod Choices
+pub mod StatementChoices
+pub mod Answer

@@ -1,0 +1,3 @@
+pub mod LockDispatch
+pub mod FileDispatch
+pub mod ArithmeticDispatch
