@@ -2,7 +2,7 @@ pub mod Bests
 pub mod Counts
 pub mod Groups
 pub mod Totals
-pub mod Gather
+pub mod Gatherings
 pub mod JudgedRows
 pub mod Places
 pub mod PlacedRows

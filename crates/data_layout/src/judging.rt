@@ -56,7 +56,7 @@ impl Judge {
 }
 
 /// Whether a row's level fits after those that were walked over.
-fn does_level_fit(walk: &Walk, row: &Row) -> bool
+pub fn does_level_fit(walk: &Walk, row: &Row) -> bool
     ensures { (before : List Row) → IsAfter before walk.now → result ≡ level_fits before row.now }
 {
     let deeper = does_go_deeper(walk.rows.as_slice(), row);

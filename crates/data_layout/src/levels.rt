@@ -93,7 +93,8 @@ fn has_no_picture(spelled: Spelled) -> bool
     }
 }
 
-fn is_allowed(occurs: Option<u64>) -> bool
+/// Whether an OCCURS number is 1 to 9,999, or there is none.
+pub fn is_allowed(occurs: Option<u64>) -> bool
     ensures { result ≡ is_in_range occurs }
 {
     match occurs {

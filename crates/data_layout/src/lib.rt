@@ -14,8 +14,12 @@ mod walk;
 
 pub use clauses::ClauseKind;
 pub use fault::LayoutFault;
+pub use judging::does_level_fit;
 pub use layout::{Item, Layout, lay_out};
+pub use levels::{does_go_on, is_allowed, is_sized, members_of, own_bytes, rank_of};
+pub use reading::{Gathered, Reading, gather, reading_of};
 pub use row::{Described, Row, Spelled};
+pub use walk::{Walk, bytes_of, bytes_with};
 
 #[cfg(test)]
 mod test_cases;

@@ -191,7 +191,11 @@ fn has_members(level: u8, rest: &[DataEntry]) -> bool
 }
 
 /// What the text after PICTURE comes to, with the sign at this place.
-fn reading_of(alloc: Global, text: Option<&ByteText>, place: SignPlace) -> Result<Reading, NoMemory>
+pub fn reading_of(
+    alloc: Global,
+    text: Option<&ByteText>,
+    place: SignPlace,
+) -> Result<Reading, NoMemory>
     ensures { IfOk result (λ reading. IsReading (option_copied text.entry) place reading) }
 {
     match text {

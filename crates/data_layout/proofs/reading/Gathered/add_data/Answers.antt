@@ -3,7 +3,7 @@ use Rattle.cob_base.specs.declared.divisions.FileDescription.{FileDescription}
 use Rattle.cob_base.specs.declared.data_entries.DataEntry.{DataEntry}
 use Rattle.data_layout.specs.Rows.{file_section, storage_section, or_none}
 use Rattle.data_layout.specs.Gathered.{Adds}
-use Rattle.data_layout.proofs.Gather.{Adds-append}
+use Rattle.data_layout.proofs.Gatherings.{Adds-append}
 use Rattle.data_layout.proofs.reading.Gathered.add_data.Goals as goal
 
 pub returns : goal.returns

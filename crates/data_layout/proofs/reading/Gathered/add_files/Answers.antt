@@ -1,4 +1,4 @@
-use Rattle.data_layout.proofs.Gather.{file_added}
+use Rattle.data_layout.proofs.Gatherings.{file_added}
 use Rattle.data_layout.proofs.reading.Gathered.add_files.Goals as goal
 
 pub loop-file-preserved : goal.loop-file-preserved

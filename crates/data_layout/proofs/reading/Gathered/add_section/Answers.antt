@@ -1,6 +1,6 @@
 use Rattle.std.proofs.Common.{refl, ◌∙◌, arith, ◌+◌, length}
 use Rattle.std.proofs.lemmas.Slice.{between_to_end}
-use Rattle.data_layout.proofs.Gather.{goes_first, added_one, entry_at}
+use Rattle.data_layout.proofs.Gatherings.{goes_first, added_one, entry_at}
 use Rattle.data_layout.proofs.reading.Gathered.add_section.Goals as goal
 
 pub loop-at-init : goal.loop-at-init

@@ -1,0 +1,14 @@
+pub mod ActsInOrder
+pub mod Tables
+pub mod NamedItems
+pub mod Chains
+pub mod ReadRows
+pub mod ScreenGroups
+pub mod Bests
+pub mod JudgedScreens
+pub mod NestedLooks
+pub mod KnownPlaces
+pub mod SoundItems
+pub mod PlannedScreens
+pub mod SoundRows
+pub mod PairLists

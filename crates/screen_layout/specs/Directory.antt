@@ -1,0 +1,17 @@
+-- The items of a layout by their names, and by pairs of names.
+use Rattle.std.specs.Prelude.{◌≡◌, ℕ, List, length, filter}
+use Rattle.cob_base.specs.declared.operands.Reference.{Reference}
+use Rattle.data_layout.specs.declared.layout.Item.{Item}
+use Rattle.screen_layout.specs.declared.directory.Directory.{Directory}
+use Rattle.screen_layout.specs.Names.{around_item, matches, matched_by}
+use Rattle.screen_layout.specs.NameTable.{AreNames}
+use Rattle.screen_layout.specs.NamePairs.{ArePairs}
+
+-- each item is under its name, and under the pairs that are in the table
+pub record IsDirectory (items : List Item) (directory : Directory) : Type 0 where
+  pub names : AreNames items directory.names
+  pub pairs : ArePairs (length items) items directory.pairs
+
+-- the items that the reference matches are among these, in order
+abbrev pub AreCandidates : List Item → Reference → List ℕ → Type 0
+AreCandidates items reference numbers = filter (λ number. matches reference (around_item items number)) numbers ≡ matched_by items reference

@@ -1,0 +1,50 @@
+//! Screens of a program: where each screen item stands, what it shows, and what showing it leaves in the cells.
+#![tactic(auto)]
+
+mod clauses;
+mod constants;
+mod contents;
+mod directory;
+mod fault;
+mod judging;
+mod laying;
+mod least;
+mod levels;
+mod looks;
+mod matching;
+mod names;
+mod painting;
+mod pairs;
+mod place;
+mod plan;
+mod planning;
+mod row;
+mod rows;
+mod walk;
+
+pub use clauses::{ClauseKind, Look, Own};
+pub use fault::ScreenFault;
+pub use laying::lay_screens;
+pub use painting::show_plan;
+pub use place::{End, Spot, Start};
+pub use plan::{Blank, Placed, ScreenPlan, Show};
+pub use row::{Content, ScreenRow};
+
+#[cfg(test)]
+mod test_blanks;
+#[cfg(test)]
+mod test_cases;
+#[cfg(test)]
+mod test_faults;
+#[cfg(test)]
+mod test_fixture;
+#[cfg(test)]
+mod test_names;
+#[cfg(test)]
+mod test_showing;
+#[cfg(test)]
+mod test_shown;
+#[cfg(test)]
+mod test_styles;
+#[cfg(test)]
+mod tests;
