@@ -1,0 +1,11 @@
+pub mod Definite
+pub mod NoFaults
+pub mod LaidOut
+pub mod Small
+pub mod Ascending
+pub mod RecordOf
+pub mod Sectioned
+pub mod SoundFiles
+pub mod RecordBytes
+pub mod Groups
+pub mod SoundKeys

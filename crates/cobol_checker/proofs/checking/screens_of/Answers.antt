@@ -1,0 +1,20 @@
+use Rattle.std.proofs.Common.{◌≡◌, refl, subst, List, Option, Some, None}
+use Rattle.cob_base.specs.declared.divisions.DataDivision.{DataDivision}
+use Rattle.cob_base.specs.declared.screen_entries.ScreenEntry.{ScreenEntry}
+use Rattle.data_layout.specs.Rows.{or_none}
+use Rattle.data_names.specs.Parts.{screens_of}
+use Rattle.screen_layout.specs.Outcome.{AreScreensOf, division_screens}
+use Rattle.screen_layout.specs.Outcome as s
+use Rattle.cobol_checker.proofs.checking.screens_of.Goals as goal
+
+same_list : (screens : Option (List ScreenEntry)) → s.or_none screens ≡ or_none screens
+same_list None = refl
+same_list (Some screens) = refl
+
+-- both have the entries of the screen section
+same_entries : (d : Option DataDivision) → division_screens d ≡ screens_of d
+same_entries None = refl
+same_entries (Some division) = same_list division.screens
+
+pub returns-in-Ok : goal.returns-in-Ok
+returns-in-Ok c = subst (λ (entries : List ScreenEntry). AreScreensOf c.args.layout.now entries c.in-Ok.screens) (same_entries c.args.front.now.data) c.in-Ok.ensures.plans

@@ -1,0 +1,6 @@
+pub mod Shapes
+pub mod Outcome
+pub mod Opening
+pub mod Judged
+pub mod Seen
+pub mod Sound

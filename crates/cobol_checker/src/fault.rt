@@ -1,0 +1,29 @@
+use cob_base::{Line, NoMemory};
+use std::alloc::{AllocError, AllocFailed};
+
+/// Why a program is refused.
+#[derive(Clone, Copy, Debug, PartialEq, Eq)]
+pub enum CheckFault {
+    /// The least fault, by line, then by reason.
+    Reason { line: Line, reason: u8 },
+    /// Memory ran out.
+    NoMemory,
+}
+
+impl From<NoMemory> for CheckFault {
+    fn from(_: NoMemory) -> Self {
+        CheckFault::NoMemory
+    }
+}
+
+impl From<AllocError> for CheckFault {
+    fn from(_: AllocError) -> Self {
+        CheckFault::NoMemory
+    }
+}
+
+impl<T: Drop> From<AllocFailed<T>> for CheckFault {
+    fn from(_: AllocFailed<T>) -> Self {
+        CheckFault::NoMemory
+    }
+}

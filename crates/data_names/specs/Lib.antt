@@ -1,0 +1,10 @@
+pub mod Parts
+pub mod Clauses
+pub mod Items
+pub mod Spots
+pub mod References
+pub mod Seen
+pub mod Facts
+pub mod Names
+pub mod Survey
+pub mod Table

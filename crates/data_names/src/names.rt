@@ -1,0 +1,90 @@
+ghost use Rattle.std.specs.Prelude.{◌≡◌, ◌++◌, ◌∷◌, [], if◌then◌else◌, ℕ, List, map, IfOk, OnOk};
+ghost use Rattle.std.specs.Str.{bytes_eq};
+ghost use Rattle.data_names.specs.Names.{in_small, is_under, numbers_under, AreNames};
+ghost use Rattle.data_names.specs.References.{same_name};
+ghost use Rattle.data_names.specs.Seen.{seen_item};
+
+use crate::known::KnownItem;
+use cob_base::{ByteText, NoMemory};
+use std::alloc::Global;
+use std::collections::BTreeMap;
+
+/// A name in small letters: names are compared without regard to case.
+pub fn folded(alloc: Global, name: &[u8]) -> Result<Vec<u8>, NoMemory>
+    ensures { IfOk result (λ key. key.items ≡ in_small name.now) }
+{
+    Ok(
+        name.iter()
+            .map(|byte| byte.to_ascii_lowercase())
+            .collect(alloc)?,
+    )
+}
+
+/// Whether two names are the same, without regard to case.
+pub fn same_name(name: &ByteText, other: &ByteText) -> bool
+    ensures { result ≡ same_name name.now other.now }
+{
+    name.as_bytes().eq_ignore_ascii_case(other.as_bytes())
+}
+
+/// The numbers of the items of each name, in the order of their entries.
+#[derive(Drop)]
+pub struct Names {
+    table: BTreeMap<Vec<u8>, Vec<usize>>,
+}
+
+impl Names {
+    /// The names of these items.
+    pub fn of(alloc: Global, items: &[KnownItem]) -> Result<Names, NoMemory>
+        ensures { IfOk result (λ names. AreNames (map seen_item items.now) names) }
+    {
+        let mut names = Names {
+            table: BTreeMap::new(alloc),
+        };
+        for (at, item) in items.iter().enumerate() {
+            names.add_item(alloc, item, at)?;
+        }
+        Ok(names)
+    }
+
+    fn add_item(&mut self, alloc: Global, item: &KnownItem, at: usize) -> Result<(), NoMemory>
+        ensures { OnOk result ((key : List ℕ) → numbers_under self.new key ≡ (if is_under key item.now.text.now.name then numbers_under self.old key ++ at ∷ [] else numbers_under self.old key)) }
+    {
+        match &item.text.name {
+            Some(name) => self.add(alloc, name.as_bytes(), at),
+            None => Ok(()),
+        }
+    }
+
+    /// Takes the numbers under a key out of the table.
+    fn take(&mut self, alloc: Global, key: &[u8]) -> Vec<usize>
+        ensures taken { result.items ≡ numbers_under self.old key.now }
+        ensures others { (other : List ℕ) → numbers_under self.new other ≡ (if bytes_eq key.now other then [] else numbers_under self.old other) }
+    {
+        match self.table.remove(key) {
+            Some(numbers) => numbers,
+            None => Vec::new(alloc),
+        }
+    }
+
+    fn add(&mut self, alloc: Global, name: &[u8], at: usize) -> Result<(), NoMemory>
+        ensures { OnOk result ((key : List ℕ) → numbers_under self.new key ≡ (if bytes_eq (in_small name.now) key then numbers_under self.old key ++ at ∷ [] else numbers_under self.old key)) }
+    {
+        let key = folded(alloc, name)?;
+        let mut numbers = self.take(alloc, key.as_slice());
+        numbers.push(at)?;
+        self.table.insert(key, numbers)?;
+        Ok(())
+    }
+
+    /// The numbers of the items of a name.
+    pub fn numbers(&self, alloc: Global, name: &[u8]) -> Result<&[usize], NoMemory>
+        ensures { IfOk result (λ numbers. numbers.now ≡ numbers_under self.entry.now (in_small name.now)) }
+    {
+        let key = folded(alloc, name)?;
+        match self.table.get(key.as_slice()) {
+            Some(numbers) => Ok(numbers.as_slice()),
+            None => Ok(&[]),
+        }
+    }
+}

@@ -1,0 +1,10 @@
+-- Those still to come decide.
+use Rattle.std.proofs.Common.{◌≡◌, length}
+use Rattle.front_rules.specs.KeyPlaces.{same_span, has_twins}
+use Rattle.front_rules.proofs.key_places.has_twins.Given as goal
+
+abbrev pub invariant-loop-rest : goal.invariant-loop-rest
+invariant-loop-rest l = has_twins same_span l.rest ≡ has_twins same_span l.spans
+
+abbrev pub decreases-loop-rest : goal.decreases-loop-rest
+decreases-loop-rest l = length l.rest

@@ -1,0 +1,5 @@
+use Rattle.front_rules.proofs.WithinTable.{within_table}
+use Rattle.front_rules.proofs.kinds.is_bad_crt_status.Goals as goal
+
+pub item_at-requires : goal.item_at-requires
+item_at-requires c = let is = rw c.in-One.is at c.in_ok-at.ensures in within_table c.args.table.now c.in-One.at is.0 is.1

@@ -1,0 +1,12 @@
+-- What was found so far.
+use Rattle.std.proofs.Common.{◌≡◌, ◌++◌, take, map}
+use Rattle.std.specs.Prelude.{filter}
+use Rattle.data_names.specs.Spots.{spots}
+use Rattle.data_names.specs.Table.{items_of}
+use Rattle.front_rules.specs.Kinds.{is_item_of_wrong_kind}
+use Rattle.front_rules.specs.Faults.{faults_at}
+use Rattle.front_rules.proofs.kinds.note_items.Given as goal
+
+abbrev pub invariant-loop-at : goal.invariant-loop-at
+invariant-loop-at l =
+    l.faults.found.items ≡ l.initial.faults.found.items ++ faults_at 6 (map (λ spot. spot.item.row.line) (filter is_item_of_wrong_kind (take l.at (spots (items_of l.table)))))

@@ -1,0 +1,9 @@
+-- What was found so far.
+use Rattle.std.proofs.Common.{◌≡◌, ◌++◌, take}
+use Rattle.std.specs.List.{flat_map}
+use Rattle.front_rules.specs.Levels.{misplaced}
+use Rattle.front_rules.specs.Faults.{faults_at}
+use Rattle.front_rules.proofs.levels.note_beside_records.Given as goal
+
+abbrev pub invariant-loop-file : goal.invariant-loop-file
+invariant-loop-file l = l.faults.found.items ≡ l.initial.faults.found.items ++ faults_at 6 (flat_map (λ file. misplaced file.records) (take l.file-index l.files))

@@ -1,0 +1,11 @@
+-- What was found so far.
+use Rattle.std.proofs.Common.{◌≡◌, ◌++◌, take, map}
+use Rattle.std.specs.Prelude.{filter}
+use Rattle.data_names.specs.Table.{items_of}
+use Rattle.front_rules.specs.Limits.{has_key_past_limit}
+use Rattle.front_rules.specs.Faults.{faults_at}
+use Rattle.front_rules.proofs.limits.note_keys_past_limits.Given as goal
+
+abbrev pub invariant-loop-file : goal.invariant-loop-file
+invariant-loop-file l =
+    l.faults.found.items ≡ l.initial.faults.found.items ++ faults_at 5 (map (λ file. file.line) (filter (has_key_past_limit (items_of l.table)) (take l.file-index l.files)))

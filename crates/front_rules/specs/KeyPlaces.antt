@@ -1,0 +1,82 @@
+-- Reason 7: keys and where they lie.
+use Rattle.std.specs.Prelude.{ℕ, ◌==◌, ◌-◌, ◌^◌, nat_lt, Bool, false, not, ◌&&◌, ◌||◌, List, [], ◌∷◌, length, map, filter, count_by, position, Option, Some, None, is_none, if◌then◌else◌}
+use Rattle.std.specs.List.{list_any, list_all, filter_map}
+use Rattle.cob_base.specs.declared.line.Line.{Line}
+use Rattle.cob_base.specs.declared.divisions.Front.{Front}
+use Rattle.cob_base.specs.declared.file_entries.FileEntry.{FileEntry}
+use Rattle.cob_base.specs.declared.file_entries.FileClause.{FileClause}
+use Rattle.data_layout.specs.Storage.{storage}
+use Rattle.data_layout.specs.Faults.{has_size}
+use Rattle.data_names.specs.Parts.{files, descriptions}
+use Rattle.front_rules.specs.Clauses.{record_key, alternates}
+use Rattle.data_names.specs.Items.{DataItem}
+use Rattle.data_names.specs.Spots.{Spot, is_table, is_in_record, rows_before, bytes_of}
+use Rattle.data_names.specs.References.{same_name, found}
+use Rattle.front_rules.specs.Mentions.{keys_of}
+use Rattle.front_rules.specs.declared.key_places.Span.{Span}
+
+-- the number of a file's description, counted from 0: the first of its name
+abbrev pub description_of : Front → List ℕ → Option ℕ
+description_of front name = position (λ description. same_name name description.name) (descriptions front)
+
+abbrev pub same_number : Option ℕ → Option ℕ → Bool
+same_number None other = false
+same_number (Some number) None = false
+same_number (Some number) (Some other) = number == other
+
+-- the item is the record under this description, or one of its members
+abbrev pub is_of_record : Option ℕ → Spot DataItem → Bool
+is_of_record description spot =
+    same_number description spot.item.source.file && is_in_record spot
+
+-- an elementary item whose picture has an S
+abbrev pub is_signed_item : DataItem → Bool
+is_signed_item item = not item.row.group && item.signed
+
+-- a key is an unsigned item or a group of the file's record, without OCCURS in or above it
+abbrev pub is_no_key : Option ℕ → Option (Spot DataItem) → Bool
+is_no_key description None = false
+is_no_key description (Some spot) = not (is_of_record description spot) || is_table spot || is_signed_item spot.item
+
+-- every size under this description is known
+abbrev pub are_sized_under : List DataItem → Option ℕ → Bool
+are_sized_under items description = list_all (λ item. not (same_number description item.source.file) || has_size item.row) items
+
+-- Where a key lies is how many bytes of the files stand before it, and how many it has. It is counted up to 2 ^ 64 - 2 bytes.
+abbrev pub is_counted : ℕ → Bool
+is_counted number = nat_lt number (2 ^ 64 - 1)
+
+abbrev pub same_span : Span → Span → Bool
+same_span span other = (span.offset == other.offset) && (span.size == other.size)
+
+abbrev pub span_of_key : Option ℕ → Option (Spot DataItem) → Option Span
+span_of_key description None = None
+span_of_key description (Some spot) =
+    if is_of_record description spot && not (is_table spot) && is_counted (storage (rows_before spot)) && is_counted (bytes_of spot)
+    then Some (record { offset = storage (rows_before spot); size = bytes_of spot }) else None
+
+abbrev pub has_twins : {A : Type 0} → (A → A → Bool) → List A → Bool
+has_twins same [] = false
+has_twins same (x ∷ xs) = list_any (same x) xs || has_twins same xs
+
+-- some key of a file is none
+abbrev pub has_no_key : List DataItem → Option ℕ → FileEntry → Bool
+has_no_key items description file = list_any (λ key. is_no_key description (found items key)) (keys_of file)
+
+-- two keys of a file lie at one place
+abbrev pub are_at_one_place : List DataItem → Option ℕ → FileEntry → Bool
+are_at_one_place items description file = has_twins same_span (filter_map (λ key. span_of_key description (found items key)) (keys_of file))
+
+-- RECORD KEY is missing, there are more than three alternates, or more than one of them with duplicates
+abbrev pub has_bad_clauses : List FileClause → Bool
+has_bad_clauses clauses =
+    is_none (record_key clauses) || nat_lt 3 (length (alternates clauses)) || nat_lt 1 (count_by (λ alternate. alternate.duplicates) (alternates clauses))
+
+-- A clause is missing or one too many, a key is none, or two lie at one place, where every size under the description is known.
+abbrev pub has_bad_keys : Front → List DataItem → FileEntry → Bool
+has_bad_keys front items file =
+    let description = description_of front file.name in
+    has_bad_clauses file.clauses || has_no_key items description file || (are_sized_under items description && are_at_one_place items description file)
+
+abbrev pub bad_key_places : Front → List DataItem → List Line
+bad_key_places front items = map (λ file. file.line) (filter (has_bad_keys front items) (files front))

@@ -1,0 +1,9 @@
+//! What connectors and files share: how a file is opened and locked, and the shape of its records.
+#![tactic(auto)]
+
+mod connector;
+mod shape;
+
+pub use cob_base::{Access, LockMode, Sharing};
+pub use connector::{LockRule, OpenMode};
+pub use shape::{KeyPlace, Shape};
