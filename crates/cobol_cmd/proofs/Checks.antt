@@ -1,119 +1,107 @@
--- What stands behind a front, against the grammar.
-use Rattle.std.proofs.Common.{◌≡◌, ◌⊎◌, ℕ, suc, zero, List, [], ◌∷◌, refl, sym, ◌∙◌, ap, subst, inl, inr, Bool, true, false, map, take, drop, length, length-drop, ◌-◌, ◌<◌, arith}
-use Rattle.std.proofs.lemmas.List.{take_all}
-use Rattle.std.specs.Prelude.{◌==◌}
-use Rattle.std.specs.Prelude.{Option, Some, None, slice_index_or, if◌then◌else◌}
-use Rattle.std.proofs.lemmas.Bool.{cases_Bool}
+-- A front with a procedure division behind it, against the grammar of a program.
+use Rattle.std.proofs.Common.{◌≡◌, ◌⊎◌, ℕ, suc, zero, List, [], ◌∷◌, refl, sym, ◌∙◌, ap, subst, inl, inr, map, take, drop, length, length-drop, ◌-◌, arith}
+use Rattle.std.specs.Prelude.{None, Ok}
+use Rattle.std.proofs.lemmas.List.{take_all, drop-map}
 use Rattle.cob_base.specs.declared.line.Line.{Line}
 use Rattle.cob_base.specs.declared.word.Entry.{Entry}
-use Rattle.cob_base.specs.declared.tokens.Token.{Token}
-use Rattle.cob_base.specs.declared.tokens.Token.TheVariants as tokens
-use Rattle.cob_base.specs.declared.keywords.Keyword.TheVariants as keywords
-use Rattle.cob_base.specs.declared.keywords.Verb.TheVariants as verbs
-use Rattle.cob_base.specs.declared.divisions.Front.{Front}
-use Rattle.cob_base.specs.declared.parse_fault.Misfit.TheVariants.{Nesting, NoFit}
 use Rattle.cob_base.specs.declared.tokens.SeenEntry.{SeenEntry}
-use Rattle.cob_base.specs.Token.{seen_entry, first_line}
-use Rattle.cob_base.specs.Form.{Form, Words, IsWord, Spells, Deep}
+use Rattle.cob_base.specs.declared.divisions.Front.{Front}
+use Rattle.cob_base.specs.declared.paragraphs.Procedure.{Procedure}
+use Rattle.cob_base.specs.declared.parse_fault.Misfit.{Misfit}
+use Rattle.cob_base.specs.declared.parse_fault.Misfit.TheVariants.{Nesting, NoFit}
+use Rattle.cob_base.specs.Token.{seen_entry}
 use Rattle.cob_base.specs.EntryForm.{EntryForm, Entries, Reads, Stops, last_line, line_of_stop}
-use Rattle.cob_base.specs.Phrases.{is_key, is_stop, same_key}
 use Rattle.cob_base.specs.Front.{front}
-use Rattle.cobol_cmd.specs.Checking.{is_stop_verb, stop_run, program_form, StopsWhole}
-use Rattle.cobol_cmd.specs.Behind.{is_stop_run, line_of_first, fault_behind}
-
-verb-is : (v : Token) (x : Unit {0}) → is_stop_verb v ≡ Some x → (line : Line) × (v ≡ tokens.Verb verbs.Stop line)
-verb-is (tokens.Verb verbs.Stop line) x e = (line, refl)
-verb-is _ x e = absurd (cc e)
-
-run-is : (v : Token) (x : Unit {0}) → is_key keywords.Run v ≡ Some x → v ≡ tokens.Key keywords.Run
-unfolding same_key
-run-is (tokens.Key keywords.Run) x e = refl
-run-is _ x e = absurd (cc e)
-
-stop-is : (v : Token) (x : Unit {0}) → is_stop v ≡ Some x → v ≡ tokens.Stop
-stop-is tokens.Stop x e = refl
-stop-is _ x e = absurd (cc e)
-
-pub spelled : (line : Line) (w : Words) → is_stop_run w ≡ true → Spells (stop_run line) w tt []
-unfolding same_key
-spelled line (tokens.Verb verbs.Stop l ∷ (tokens.Key keywords.Run ∷ (tokens.Stop ∷ []))) e = (tt, _, (refl, refl), (tt, _, (refl, refl), (refl, refl)))
-spelled line _ e = absurd (cc e)
-
-made-of : (v u t : Token) (line : Line) → v ≡ tokens.Verb verbs.Stop line → u ≡ tokens.Key keywords.Run → t ≡ tokens.Stop → is_stop_run (v ∷ (u ∷ (t ∷ []))) ≡ true
-made-of v u t line one two three = rw (one, two, three) refl
-
-word-is : {A : Type 0} (p : Token → Option A) (w : Words) (x : A) (rest : Words) → IsWord p w x rest → (v : Token) × (w ≡ v ∷ rest) × (p v ≡ Some x)
-word-is p [] x rest there = absurd there
-word-is p (v ∷ w) x rest there = (v, ap (λ (l : Words). v ∷ l) there.1, there.0)
-
-pub spelled-is : (line : Line) (w : Words) (x : Unit {0}) → Spells (stop_run line) w x [] → is_stop_run w ≡ true
-spelled-is line w x spells =
-    let first = word-is is_stop_verb w spells.0 spells.1 spells.2 in
-    let behind = spells.3 in
-    let second = word-is (is_key keywords.Run) spells.1 behind.0 behind.1 behind.2 in
-    let third = word-is is_stop behind.1 x [] behind.3 in
-    let verb = verb-is first.0 spells.0 first.2 in
-    let whole : w ≡ first.0 ∷ (second.0 ∷ (third.0 ∷ [])) = first.1 ∙ ap (λ (l : Words). first.0 ∷ l) (second.1 ∙ ap (λ (l : Words). second.0 ∷ l) third.1) in
-    ap is_stop_run whole ∙ made-of first.0 second.0 third.0 verb.0 verb.1 (run-is second.0 behind.0 second.2) (stop-is third.0 x third.2)
-
-pub not_deep : (line : Line) (w : Words) → ¬ (Deep (stop_run line) w)
-not_deep line w (inl never) = never
-not_deep line w (inr (x, mid, spells, inl never)) = never
-not_deep line w (inr (x, mid, spells, inr (y, end, more, never))) = never
-
--- what the code finds behind a front
-abbrev Behind : Entries → Entries → Option Line → Type 0
-Behind es rest None = Reads (EntryForm.entry stop_run) rest tt []
-Behind es rest (Some line) =
-    (at : Entries) × (Stops (EntryForm.entry stop_run) NoFit at rest ⊎ (Reads (EntryForm.entry stop_run) rest tt at × ¬ (at ≡ []))) × (line_of_stop es at ≡ line)
+use Rattle.cob_base.specs.Procedure.{procedure, sentences_of, sentence, paragraph, header, end_program, program, program_of, StopsWhole}
+use Rattle.procedure_parser.specs.Answer.{IsDefinite}
+use Rattle.procedure_parser.specs.Answer as behind
+use Rattle.division_parser.specs.Answer as before
+use Rattle.division_parser.specs.declared.fronts.FrontRead.{FrontRead}
+use Rattle.cobol_cmd.specs.Checking.{IsProgram, IsNoProgram}
+use Rattle.cobol_cmd.specs.Programs.{HasProgram}
+use Rattle.cob_base.specs.declared.paragraphs.Program.{Program}
+use Rattle.front_rules.specs.declared.fault.Fault.{Fault}
+use Rattle.cobol_checker.specs.Outcome.{IsRefused}
+use Rattle.cobol_checker.specs.declared.fault.CheckFault.{CheckFault}
+use Rattle.cobol_checker.specs.declared.fault.CheckFault.TheVariants as checks
 
 not_nil : {A : Type 0} (x : A) (xs : List A) → ¬ (x ∷ xs ≡ [])
 not_nil x xs same = absurd (cc same)
 
-first-of : (es more : Entries) (e : SeenEntry) → is_stop_run e.tokens ≡ true → Behind es (e ∷ more) (line_of_first more)
-first-of es [] e run = (spelled e.line e.tokens run, refl)
-first-of es (next ∷ more) e run = (next ∷ more, inr ((spelled e.line e.tokens run, refl), not_nil next more), refl)
+-- the last line of entries is that of what is left of them, where something is
+last-behind : (es : Entries) (n : ℕ) → ¬ (drop n es ≡ []) → last_line es ≡ last_line (drop n es)
+last-behind [] zero some = refl
+last-behind [] (suc n) some = refl
+last-behind (e ∷ es) zero some = refl
+last-behind (e ∷ []) (suc zero) some = absurd (some refl)
+last-behind (e ∷ []) (suc (suc n)) some = absurd (some refl)
+last-behind (e ∷ (f ∷ es)) (suc n) some = last-behind (f ∷ es) n some
 
-behind-is : (es rest : Entries) → Behind es rest (fault_behind es rest)
-behind-is es [] = ([], inl (tt, refl), refl)
-behind-is es (e ∷ more) = elim (cases_Bool (is_stop_run e.tokens)) [
-  | inl run ↦ rw run (first-of es more e run)
-  | inr other ↦
-      let not_read : (x : Unit {0}) → ¬ (Spells (stop_run e.line) e.tokens x []) = λ x spells. absurd (cc (spelled-is e.line e.tokens x spells, other)) in
-      rw other (e ∷ more, inl ((not_read, not_deep e.line e.tokens), refl), refl)
-]
+-- no entries at all are a procedure division
+reads-nothing : Reads procedure [] (record { paragraphs = []; end_program = None }) []
+unfolding procedure sentences_of sentence paragraph header end_program
+reads-nothing = (([], ([], None)), ([], (None, (refl, refl), refl), ([], (None, (refl, refl), refl), (refl, refl))), refl)
 
--- nothing is at fault behind the front
-pub is_program : (es rest : Entries) (read : Front) (fault : Option Line) → Reads front es read rest → fault ≡ fault_behind es rest → fault ≡ None
-    → Reads program_form es read []
-is_program es rest read fault reads found none =
-    let behind : Behind es rest None = subst (Behind es rest) (sym found ∙ none) (behind-is es rest) in
-    ((read, tt), (rest, reads, behind), refl)
+module _ (law : IsDefinite procedure) where
+  -- where a procedure division stops, the line is that of the whole entries too
+  pub same_line : (es : Entries) (n : ℕ) (rest at : Entries) (reason : Misfit) → drop n es ≡ rest → StopsWhole procedure reason at rest → line_of_stop es at ≡ line_of_stop rest at
+  same_line es n rest (e ∷ at) reason is stops = refl
+  same_line es n [] [] reason is stops = absurd (law.never_both [] [] (record { paragraphs = []; end_program = None }) reason reads-nothing stops)
+  same_line es n (r ∷ rest) [] reason is stops =
+      last-behind es n (λ none. not_nil r rest (sym is ∙ none)) ∙ ap last_line is
 
--- something is
-pub is_no_program : (es rest : Entries) (read : Front) (fault : Option Line) (line : Line) → Reads front es read rest → fault ≡ fault_behind es rest → fault ≡ Some line
-    → (at : Entries) × StopsWhole NoFit at es × (line_of_stop es at ≡ line)
-is_no_program es rest read fault line reads found some =
-    let behind : Behind es rest (Some line) = subst (Behind es rest) (sym found ∙ some) (behind-is es rest) in (
-      behind.0,
-      elim behind.1 [
-        | inl stops ↦ inl (inr (read, rest, reads, stops))
-        | inr (there, more) ↦ inr (read, ((read, tt), (rest, reads, there), refl), more)
-      ],
-      behind.2,
-    )
+-- a front and a procedure division are a program
+pub is_program : (es rest : Entries) (before : Front) (division : Procedure) → Reads front es before rest → Reads procedure rest division []
+    → Reads program es (program_of (before, division)) []
+unfolding program
+is_program es rest before division reads behind = ((before, division), (rest, reads, behind), refl)
 
-pub last-is : (entries : List Entry) (other : Entry) → ¬ (entries ≡ []) → last_line (map seen_entry entries) ≡ first_line (slice_index_or entries (length entries - 1) other).words
-last-is [] other some = absurd (some refl)
-last-is (x ∷ []) other some = refl
-last-is (x ∷ (y ∷ more)) other some =
-    let place : length (x ∷ (y ∷ more)) - 1 ≡ suc (length (y ∷ more) - 1) = omega arith in
-    last-is (y ∷ more) other (not_nil y more) ∙ sym (ap (λ (k : ℕ). first_line (slice_index_or (x ∷ (y ∷ more)) k other).words) place)
+-- where a procedure division stops, so does the program
+pub stops_program : (es rest at : Entries) (before : Front) (reason : Misfit) → Reads front es before rest → StopsWhole procedure reason at rest → StopsWhole program reason at es
+unfolding program
+stops_program es rest at before Nesting reads stops = inr (before, rest, reads, stops)
+stops_program es rest at before NoFit reads (inl stops) = inl (inr (before, rest, reads, stops))
+stops_program es rest at before NoFit reads (inr (division, behind, more)) = inr (program_of (before, division), ((before, division), (rest, reads, behind), refl), more)
 
-pub some_entries : (entries : List Entry) → false ≡ (length entries == 0) → ¬ (entries ≡ [])
-some_entries [] filled same = absurd (cc filled)
-some_entries (x ∷ xs) filled same = not_nil x xs same
+-- where a front stops, so does the program
+pub stops_front : (es at : Entries) (reason : Misfit) → Stops front reason at es → StopsWhole program reason at es
+unfolding program
+stops_front es at Nesting stops = inl stops
+stops_front es at NoFit stops = inl (inl stops)
 
 -- the entries behind so many of them, as a slice of their own length
 pub all_behind : (entries : List Entry) (used : ℕ) → take (length entries - used) (drop used entries) ≡ drop used entries
 all_behind entries used = take_all (length entries - used) (drop used entries) (omega (arith, length-drop used entries))
+
+-- entries with a front, behind which no procedure division stands to the end, are no program
+pub no_program : IsDefinite procedure → (entries : List Entry) (read : FrontRead) (reason : Misfit) (line : Line) → before.ReadsAs entries read
+    → behind.StopsAs (drop read.used entries) reason line → IsNoProgram entries reason line
+no_program law entries read reason line front stops = record {
+  at = stops.at;
+  stops = stops_program _ _ _ _ reason front.reads stops.stops;
+  in_line = same_line law (map seen_entry entries) read.used (map seen_entry (drop read.used entries)) stops.at reason (drop-map seen_entry read.used entries) stops.stops ∙ stops.in_line;
+}
+
+-- entries with no front are no program
+pub no_front : (entries : List Entry) (reason : Misfit) (line : Line) → before.StopsAs entries reason line → IsNoProgram entries reason line
+no_front entries reason line stops = record { at = stops.at; stops = stops_front _ _ reason stops.stops; in_line = stops.in_line }
+
+-- a program that is refused for a rule, as its line and reason are told
+pub rule_broken : (text : List ℕ) (read : Program) (fault : CheckFault) (line told_line : Line) (reason told_reason : ℕ) → HasProgram text read → fault ≡ checks.Reason line reason
+    → told_line ≡ line → told_reason ≡ reason → (fault ≡ checks.NoMemory) ⊎ ((least : Fault) × (fault ≡ checks.Reason least.line least.reason) × IsRefused read least)
+    → (found : Program) × HasProgram text found × IsRefused found (record { line = told_line; reason = told_reason })
+rule_broken text read fault line told_line reason told_reason has is line_is reason_is (inl none) =
+    let both : checks.Reason line reason ≡ checks.NoMemory = sym is ∙ none in absurd (cc both)
+rule_broken text read fault line told_line reason told_reason has is line_is reason_is (inr (least, told, refused)) =
+    let same : checks.Reason line reason ≡ checks.Reason least.line least.reason = sym is ∙ told in
+    let lines : told_line ≡ least.line = cc (same, line_is) in
+    let reasons : told_reason ≡ least.reason = cc (same, reason_is) in
+    (read, has, rw (lines, reasons) refused)
+
+-- a procedure division that the entries behind a front read as makes a program with it
+pub with_division : (entries : List Entry) (read : FrontRead) (division : Procedure) (whole : Program) → before.ReadsAs entries read
+    → behind.Answers (take (length entries - read.used) (drop read.used entries)) (Ok division) → whole ≡ program_of (read.front, division) → IsProgram entries whole
+with_division entries read division whole front answers whole_is =
+    let rest : Reads procedure (map seen_entry (drop read.used entries)) division [] =
+    subst (λ es. Reads procedure (map seen_entry es) division []) (all_behind entries read.used) answers in
+    subst (IsProgram entries) (sym whole_is) (is_program _ _ _ _ front.reads rest)

@@ -4,12 +4,10 @@ use Rattle.std.specs.Prelude.{Option, Some, None, Result, Ok, Err, IfSome}
 use Rattle.cob_base.specs.declared.line.Line.{Line}
 use Rattle.cob_base.specs.declared.word.Spoken.{Spoken}
 use Rattle.cob_base.specs.declared.word.Entry.{Entry}
-use Rattle.cob_base.specs.declared.divisions.Front.{Front}
+use Rattle.cob_base.specs.declared.paragraphs.Program.{Program}
 use Rattle.cob_base.specs.Token.{seen_entry}
-use Rattle.cob_base.specs.EntryForm.{EntryForm, Entries, Reads, Stops, Misfits}
-use Rattle.division_parser.specs.Answer.{IsDefinite}
-use Rattle.cobol_cmd.specs.Checking.{stop_run, program_form, StopsWhole}
-use Rattle.cobol_cmd.proofs.Checks.{not_deep}
+use Rattle.procedure_parser.specs.Answer.{IsDefinite}
+use Rattle.cob_base.specs.Procedure.{program, StopsWhole}
 use Rattle.cob_base.specs.declared.parse_fault.Misfit.{Misfit}
 use Rattle.cob_base.specs.declared.parse_fault.Misfit.TheVariants as misfits
 use Rattle.cobol_words.specs.Entries.{EntriesOf}
@@ -27,6 +25,9 @@ use Rattle.cobol_cmd.specs.declared.command.Action.TheVariants.{Show, Check}
 use Rattle.cobol_cmd.specs.declared.fault.ProgramFault.{ProgramFault}
 use Rattle.cobol_cmd.specs.declared.fault.ProgramFault.TheVariants as faults
 use Rattle.cobol_cmd.specs.Commands.{Command}
+use Rattle.cobol_checker.specs.Outcome as checks
+use Rattle.cobol_checker.proofs.Definite as definite
+use Rattle.cobol_cmd.specs.Checking.{IsProgram}
 use Rattle.cobol_cmd.specs.Small.{Small}
 use Rattle.cobol_cmd.specs.Programs.{HasWords, HasEntries, EndsEarly, HasProgram, HasNoProgram, Prints, Fails}
 use Rattle.cobol_cmd.specs.Answers.{Call, Says, Tells, IsRead, IsRefused, IsTooLong, Refuses, status_of, source_limit}
@@ -56,40 +57,18 @@ same_entries text entries others one two =
     let both : Ok entries ≡ Ok others = sym one.has_entries ∙ ap EntriesOf same ∙ two.has_entries in
     cc both
 
--- the rest behind a front is read as STOP RUN, so it does not stop
-stop_run-both : (es at : Entries) (reason : Misfit) → Reads (EntryForm.entry stop_run) es tt [] → Misfits stop_run reason es → ⊥
-stop_run-both [] at reason reads stops = reads
-stop_run-both (e ∷ es) at misfits.Nesting reads stops = not_deep e.line e.tokens stops
-stop_run-both (e ∷ es) at misfits.NoFit reads stops = stops.0 tt reads.0
+program_not_none : IsDefinite program → (text : List ℕ) (reason : Misfit) (line : Line) (read : Program) → HasProgram text read → HasNoProgram text reason line → ⊥
+program_not_none law text reason line read is none =
+    let same : none.entries ≡ is.entries = same_entries text none.entries is.entries none.has_entries is.has_entries in
+    let P : List Entry → Type 0 = λ l. StopsWhole program reason none.no_program.at (map seen_entry l) in
+    law.never_both (map seen_entry is.entries) none.no_program.at read reason is.program (subst P same none.no_program.stops)
 
--- STOP RUN ends at one place
-one_end : (es at : Entries) (x : Unit {0}) → Reads (EntryForm.entry stop_run) es x at → Reads (EntryForm.entry stop_run) es tt [] → at ≡ []
-one_end [] at x reads ends = absurd reads
-one_end (e ∷ es) at x reads ends = sym reads.1 ∙ ends.1
+same_program : IsDefinite program → (text : List ℕ) (read other : Program) → HasProgram text read → HasProgram text other → read ≡ other
+same_program law text read other one two =
+    let same : one.entries ≡ two.entries = same_entries text one.entries two.entries one.has_entries two.has_entries in
+    law.one_reading (map seen_entry two.entries) read other (subst (λ l. IsProgram l read) same one.program) two.program
 
-module _ (law : IsDefinite) where
-  stops_not : (es : Entries) (read : Front) (reason : Misfit) (at : Entries) → Reads program_form es read [] → Stops program_form reason at es → ⊥
-  stops_not es read reason at reads (inl stops) = law.never_both es reads.1.0 at reads.0.0 reason reads.1.1 stops
-  stops_not es read reason at reads (inr (other, mid, front, stopped)) =
-      let same : mid ≡ reads.1.0 = (law.one_front es mid reads.1.0 other reads.0.0 front reads.1.1).1 in
-      let P : Entries → Type 0 = λ l. Misfits stop_run reason l in
-      stop_run-both reads.1.0 at reason reads.1.2 (subst P same stopped.0)
-
-  whole_not : (es : Entries) (read : Front) (reason : Misfit) (at : Entries) → Reads program_form es read [] → StopsWhole reason at es → ⊥
-  whole_not es read misfits.Nesting at reads stops = stops_not es read misfits.Nesting at reads stops
-  whole_not es read misfits.NoFit at reads (inl stops) = stops_not es read misfits.NoFit at reads stops
-  whole_not es read misfits.NoFit at reads (inr (other, again, more)) =
-      let same : again.1.0 ≡ reads.1.0 = (law.one_front es again.1.0 reads.1.0 again.0.0 reads.0.0 again.1.1 reads.1.1).1 in
-      let P : Entries → Type 0 = λ l. Reads (EntryForm.entry stop_run) l again.0.1 at in
-      more (one_end reads.1.0 at again.0.1 (subst P same again.1.2) reads.1.2)
-
-  program_not_none : (text : List ℕ) (reason : Misfit) (line : Line) (read : Front) → HasProgram text read → HasNoProgram text reason line → ⊥
-  program_not_none text reason line read program none =
-      let same : none.entries ≡ program.entries = same_entries text none.entries program.entries none.has_entries program.has_entries in
-      let P : List Entry → Type 0 = λ l. StopsWhole reason none.no_program.at (map seen_entry l) in
-      whole_not (map seen_entry program.entries) read reason none.no_program.at program.program (subst P same none.no_program.stops)
-
-pub never_both : IsDefinite → (action : Action) (fault : ProgramFault) (text output : List ℕ) → Prints action text output → Fails action fault text → ⊥
+pub never_both : IsDefinite program → (action : Action) (fault : ProgramFault) (text output : List ℕ) → Prints action text output → Fails action fault text → ⊥
 never_both law Show (faults.Lines fault) text output prints fails =
     let both : Ok prints.has_words.lines ≡ Err fault = sym prints.has_words.has_lines ∙ fails in
     cc both
@@ -103,6 +82,7 @@ never_both law Show (faults.Entries line) text output prints fails =
     let P : List Spoken → Type 0 = λ words. Small words prints.line prints.column prints.bytes in
     other.not_small prints.line prints.column prints.bytes (subst P same prints.small)
 never_both law Show (faults.Nesting line) text output prints fails = fails
+never_both law Show (faults.Profile line reason) text output prints fails = fails
 never_both law Show faults.NoMemory text output prints fails = fails
 never_both law Check (faults.Lines fault) text output prints fails =
     let words = prints.1.has_entries.has_words in
@@ -114,12 +94,16 @@ never_both law Check (faults.Words fault) text output prints fails =
     let both : Ok prints.1.has_entries.words ≡ Err fault = sym words.has_words ∙ ap WordsOf lines ∙ fails.2 in
     cc both
 never_both law Check (faults.Entries line) text output prints (inl early) = early_not_entries text line prints.1.entries early prints.1.has_entries
-never_both law Check (faults.Entries line) text output prints (inr other) = program_not_none law text misfits.NoFit line prints.0 prints.1 other
-never_both law Check (faults.Nesting line) text output prints fails = program_not_none law text misfits.Nesting line prints.0 prints.1 fails
+never_both law Check (faults.Entries line) text output prints (inr other) = program_not_none law text misfits.NoFit line prints.0.program prints.1 other
+never_both law Check (faults.Nesting line) text output prints fails = program_not_none law text misfits.Nesting line prints.0.program prints.1 fails
+never_both law Check (faults.Profile line reason) text output prints fails =
+    let same : fails.0 ≡ prints.0.program = same_program law text fails.0 prints.0.program fails.1 prints.1 in
+    let P : Program → Type 0 = λ p. checks.IsRefused p (record { line = line; reason = reason }) in
+    definite.never_both prints.0 (record { line = line; reason = reason }) prints.2 (subst P same fails.2)
 never_both law Check faults.NoMemory text output prints fails = fails
 
 -- what is held is a text for which a command prints something, so it doesn't refuse it
-held_not_refused : IsDefinite → (action : Action) (fault : ProgramFault) (found : Option (List ℕ)) (text output : List ℕ) → found ≡ Some text → Prints action text output → IsRefused action fault found → ⊥
+held_not_refused : IsDefinite program → (action : Action) (fault : ProgramFault) (found : Option (List ℕ)) (text output : List ℕ) → found ≡ Some text → Prints action text output → IsRefused action fault found → ⊥
 held_not_refused law action fault None text output is prints refused = refused
 held_not_refused law action fault (Some other) text output is prints refused =
     let same : other ≡ text = cc is in
@@ -146,7 +130,7 @@ short_is_not_long (Some other) text long some short =
     let P : List ℕ → Type 0 = λ bytes. source_limit < length bytes in
     absurd (omega (arith, subst P same long, short))
 
-module _ (law : IsDefinite) (asked : Command) (files : List Held) (reads reads_now puts puts_now : ℕ) (taken taken_now : Option (List ℕ)) where
+module _ (law : IsDefinite program) (asked : Command) (files : List Held) (reads reads_now puts puts_now : ℕ) (taken taken_now : Option (List ℕ)) where
   abbrev call : Option (List Held) → Call
   call held = record { held = held; reads = reads; reads_now = reads_now; puts = puts; puts_now = puts_now; taken = taken; taken_now = taken_now }
 

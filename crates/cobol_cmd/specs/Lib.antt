@@ -6,4 +6,3 @@ pub mod Commands
 pub mod Programs
 pub mod Answers
 pub mod Checking
-pub mod Behind

@@ -6,7 +6,7 @@ use Rattle.cob_base.specs.declared.fault.TextFault.TheVariants as texts
 use Rattle.cobol_words.specs.declared.fault.WordFault.{WordFault}
 use Rattle.cobol_words.specs.declared.fault.WordFault.TheVariants as words
 use Rattle.cobol_cmd.specs.declared.fault.ProgramFault.{ProgramFault}
-use Rattle.cobol_cmd.specs.declared.fault.ProgramFault.TheVariants.{Lines, Words, Entries, Nesting, NoMemory}
+use Rattle.cobol_cmd.specs.declared.fault.ProgramFault.TheVariants.{Lines, Words, Entries, Nesting, Profile, NoMemory}
 
 -- the line that a fault names; want of memory names none
 abbrev pub text_fault_line : TextFault → ℕ
@@ -47,6 +47,8 @@ refused_line name (Words fault) =
     codes "refused program " ++ (name ++ (codes " words " ++ (decimal (word_fault_line fault) ++ (codes " " ++ (word_fault_reason fault ++ codes "\n")))))
 refused_line name (Entries line) = codes "refused program " ++ (name ++ (codes " entries " ++ (decimal line.0 ++ codes "\n")))
 refused_line name (Nesting line) = codes "refused program " ++ (name ++ (codes " nesting " ++ (decimal line.0 ++ codes "\n")))
+refused_line name (Profile line reason) =
+    codes "refused program " ++ (name ++ (codes " profile " ++ (decimal line.0 ++ (codes " " ++ (decimal reason ++ codes "\n")))))
 refused_line name NoMemory = []
 
 -- the words have no shape of a command

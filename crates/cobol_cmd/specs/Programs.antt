@@ -6,7 +6,7 @@ use Rattle.cob_base.specs.declared.parse_fault.Misfit.{Misfit}
 use Rattle.cob_base.specs.declared.line.SourceLine.{SourceLine}
 use Rattle.cob_base.specs.Lines.{LinesOf}
 use Rattle.cob_base.specs.declared.word.Entry.{Entry}
-use Rattle.cob_base.specs.declared.divisions.Front.{Front}
+use Rattle.cob_base.specs.declared.paragraphs.Program.{Program}
 use Rattle.cob_base.specs.declared.parse_fault.Misfit.TheVariants as misfits
 use Rattle.cobol_words.specs.Text.{WordsOf}
 use Rattle.cobol_words.specs.Entries.{EntriesOf}
@@ -14,10 +14,11 @@ use Rattle.cobol_words.specs.declared.fault.EntryFault.TheVariants.{NoStop}
 use Rattle.cobol_cmd.specs.declared.command.Action.{Action}
 use Rattle.cobol_cmd.specs.declared.command.Action.TheVariants.{Show, Check}
 use Rattle.cobol_cmd.specs.declared.fault.ProgramFault.{ProgramFault}
-use Rattle.cobol_cmd.specs.declared.fault.ProgramFault.TheVariants.{Lines, Words, Entries, Nesting, NoMemory}
+use Rattle.cobol_cmd.specs.declared.fault.ProgramFault.TheVariants.{Lines, Words, Entries, Nesting, Profile, NoMemory}
 use Rattle.cobol_cmd.specs.Small.{Small}
-use Rattle.cobol_cmd.specs.Report.{small_report, front_read}
+use Rattle.cobol_cmd.specs.Report.{small_report, program_read}
 use Rattle.cobol_cmd.specs.Checking.{IsProgram, IsNoProgram}
+use Rattle.cobol_checker.specs.Outcome.{CheckedValue, IsInProfile, IsRefused}
 
 -- the words of a text
 pub record HasWords (text : List ℕ) (words : List Spoken) : Type 0 where
@@ -53,11 +54,11 @@ pub record EndsEarly (text : List ℕ) (line : Line) : Type 0 where
   pub has_words : HasWords text words
   pub no_entries : EntriesOf words ≡ Err (NoStop line)
 
--- the text has the entries of a program, with this front
-pub record HasProgram (text : List ℕ) (front : Front) : Type 0 where
+-- the text has the entries of this program
+pub record HasProgram (text : List ℕ) (read : Program) : Type 0 where
   pub entries : List Entry
   pub has_entries : HasEntries text entries
-  pub program : IsProgram entries front
+  pub program : IsProgram entries read
 
 -- the text has entries, which read as no program for this reason
 pub record HasNoProgram (text : List ℕ) (reason : Misfit) (line : Line) : Type 0 where
@@ -75,7 +76,7 @@ IsCheckFault entries _ = ⊥
 -- what a command prints for a text
 abbrev pub Prints : Action → List ℕ → List ℕ → Type 0
 Prints Show text output = HasReport text output
-Prints Check text output = (front : Front) × HasProgram text front × (output ≡ front_read)
+Prints Check text output = (checked : CheckedValue) × HasProgram text checked.program × IsInProfile checked × (output ≡ program_read)
 
 -- the fault for which a command refuses a text: the first of its lines, else the first of its words, else that of its entries
 abbrev pub Fails : Action → ProgramFault → List ℕ → Type 0
@@ -83,8 +84,10 @@ Fails action (Lines fault) text = LinesOf text ≡ Err fault
 Fails action (Words fault) text = (lines : List SourceLine) × (LinesOf text ≡ Ok lines) × (WordsOf lines ≡ Err fault)
 Fails Show (Entries line) text = (line.0 ≡ 1) × HasOtherWords text
 Fails Show (Nesting line) text = ⊥
+Fails Show (Profile line reason) text = ⊥
 Fails Check (Entries line) text = EndsEarly text line ⊎ HasNoProgram text misfits.NoFit line
 Fails Check (Nesting line) text = HasNoProgram text misfits.Nesting line
+Fails Check (Profile line reason) text = (read : Program) × HasProgram text read × IsRefused read (record { line = line; reason = reason })
 Fails action NoMemory text = ⊥
 
 -- the same, where memory may run out

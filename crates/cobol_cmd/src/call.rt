@@ -16,8 +16,8 @@ use crate::fault::{
     ProgramFault, text_fault_line, text_fault_reason, word_fault_line, word_fault_reason,
 };
 use crate::program::output_of;
-use division_parser::fronts_are_definite;
 use outside_world::{Shelf, ShelfFail, Sink, put_all};
+use procedure_parser::programs_are_definite;
 use std::alloc::{AllocError, Global};
 
 /// The longest program that is read, in bytes.
@@ -66,6 +66,10 @@ fn refused_line_of(alloc: Global, fault: ProgramFault, name: &str) -> Result<Str
         ProgramFault::Nesting(line) => {
             let line = line.0;
             format!(in alloc; "refused program {name} nesting {line}\n")
+        }
+        ProgramFault::Profile { line, reason } => {
+            let line = line.0;
+            format!(in alloc; "refused program {name} profile {line} {reason}\n")
         }
         ProgramFault::NoMemory => Ok(String::new(alloc)),
     }
@@ -220,7 +224,7 @@ pub fn cobol_plain<H: Shelf, K: Sink>(
         → ¬ Rose (H.read_faults shelf.old) (H.read_faults shelf.new) → ¬ Rose (K.faults out.old) (K.faults out.new)
         → (result ≡ 0) ⊎ (result ≡ 9) }
 {
-    // Entries read as one front at most: without it nothing says that a program is not refused.
-    fronts_are_definite();
+    // Entries read as one program at most, or as none: without it nothing says that a program is not refused.
+    programs_are_definite();
     answer(alloc, words, shelf, out).status()
 }

@@ -15,6 +15,9 @@ pub enum ProgramFault {
     Entries(Line),
     /// The words are good, and an entry that begins in this line nests statements and parentheses too deep.
     Nesting(Line),
+    /// The entries are a program, which breaks the rule of this number, from 1 to 13, in an entry, statement or paragraph header
+    /// that begins in this line. Of several faults the least is told, by line, then by reason.
+    Profile { line: Line, reason: u8 },
     /// Memory ran out. No other variant holds a want of memory.
     NoMemory,
 }

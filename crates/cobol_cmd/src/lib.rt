@@ -13,6 +13,7 @@ pub use answer::Answer;
 pub use call::cobol_plain;
 pub use command::Action;
 pub use fault::ProgramFault;
+pub use program::read_program;
 
 #[cfg(test)]
 mod tests;

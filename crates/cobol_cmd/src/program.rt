@@ -1,25 +1,24 @@
 ghost use Rattle.std.specs.Prelude.{◌≡◌, ◌<◌, ◌^◌, length, IfOk, IfErr};
+ghost use Rattle.cob_base.specs.Procedure.{program_of};
 ghost use Rattle.cobol_cmd.specs.declared.command.Action.TheVariants.{Show, Check};
 ghost use Rattle.cobol_cmd.specs.declared.command.Action.{Action};
-ghost use Rattle.std.specs.Prelude.{◌↔◌, ◌≤◌, IsTrue, OnOk, [], map};
-ghost use Rattle.cob_base.specs.declared.divisions.Front.{Front};
-ghost use Rattle.cob_base.specs.EntryForm.{last_line};
-ghost use Rattle.cob_base.specs.Token.{seen_entry};
 ghost use Rattle.division_parser.specs.Answer.{ReadsAs};
 ghost use Rattle.cobol_cmd.specs.Checking.{IsProgram};
-ghost use Rattle.cobol_cmd.specs.Behind.{is_stop_run, line_of_first, fault_behind};
-ghost use Rattle.cobol_cmd.specs.Programs.{HasWords, HasEntries, IsCheckFault, Prints, FailsOrNoMemory};
+ghost use Rattle.cobol_cmd.specs.Programs.{HasWords, HasEntries, HasProgram, IsCheckFault, Prints, FailsOrNoMemory};
+ghost use Rattle.cobol_checker.specs.Outcome.{IsInProfile};
+ghost use Rattle.cobol_checker.specs.Seen.{seen_checked};
 
 use crate::command::Action;
 use crate::fault::ProgramFault;
 use crate::report::report_of;
 use crate::small::small_item;
 use cob_base::{
-    Entry, Items, Keyword, Line, NoMemory, ParseFault, Spoken, TextFault, Token, Verb, first_line,
-    see_entry,
+    Entry, Front, Items, Line, NoMemory, ParseFault, Procedure, Program, Spoken, TextFault,
 };
+use cobol_checker::{CheckFault, Checked};
 use cobol_words::{EntryFault, WordFault, entries, read_words};
 use division_parser::{FrontRead, parse_front};
+use procedure_parser::{parse_procedure, programs_are_definite};
 use reference_format::read_lines;
 use std::alloc::Global;
 
@@ -71,74 +70,43 @@ fn entries_of(alloc: Global, text: &[u8]) -> Result<Items<Entry>, ProgramFault>
     }
 }
 
-/// Whether the words of an entry are STOP RUN and a period.
-fn is_stop_run(tokens: &[Token]) -> bool
-    ensures { result ≡ is_stop_run tokens.now }
+/// The program of a front and the procedure division behind it.
+fn with_front(front: Front, behind: Procedure) -> Program
+    ensures { result ≡ program_of (front, behind) }
 {
-    match tokens {
-        [
-            Token::Verb(Verb::Stop, _),
-            Token::Key(Keyword::Run),
-            Token::Stop,
-        ] => true,
-        _ => false,
+    let Procedure {
+        paragraphs,
+        end_program,
+    } = behind;
+    Program {
+        front,
+        paragraphs,
+        end_program,
     }
 }
 
-/// The line of the last entry's first word, or 1 where there is none.
-fn line_of_last(entries: &[Entry]) -> Line
-    ensures { result ≡ last_line (map seen_entry entries.now) }
-{
-    if entries.is_empty() {
-        return Line(1);
-    }
-    let last = &entries[entries.len() - 1];
-    first_line(last.words.as_slice())
-}
-
-/// The line of the entry at the front, if there is one.
-fn line_of_first(entries: &[Entry]) -> Option<Line>
-    ensures { result ≡ line_of_first (map seen_entry entries.now) }
-{
-    match entries {
-        [first, ..] => Some(first_line(first.words.as_slice())),
-        [] => None,
-    }
-}
-
-/// The line of what is at fault behind a front, where `rest` stands there: nothing is where it is STOP RUN alone.
-fn fault_behind(alloc: Global, entries: &[Entry], rest: &[Entry]) -> Result<Option<Line>, NoMemory>
-    ensures { IfOk result (λ fault. fault ≡ fault_behind (map seen_entry entries.now) (map seen_entry rest.now)) }
-{
-    match rest {
-        [] => Ok(Some(line_of_last(entries))),
-        [first, more @ ..] => {
-            let seen = see_entry(alloc, first)?;
-            if is_stop_run(seen.tokens.as_slice()) {
-                return Ok(line_of_first(more));
-            }
-            Ok(Some(seen.line))
-        }
-    }
-}
-
-/// Whether STOP RUN alone stands behind a front.
-fn check_behind(alloc: Global, entries: &[Entry], read: FrontRead) -> Result<(), ProgramFault>
+/// The program of entries that begin with this front.
+fn program_behind(
+    alloc: Global,
+    entries: &[Entry],
+    read: FrontRead,
+) -> Result<Program, ProgramFault>
     requires { ReadsAs entries.now read }
-    ensures program { OnOk result ((read : Front) × IsProgram entries.now read) }
+    ensures program { IfOk result (λ program. IsProgram entries.now program) }
     ensures fault { IfErr result (λ fault. IsCheckFault entries.now fault) }
 {
-    let rest = &entries[read.used as usize..];
-    match fault_behind(alloc, entries, rest) {
-        Ok(None) => Ok(()),
-        Ok(Some(line)) => Err(ProgramFault::Entries(line)),
-        Err(NoMemory) => Err(ProgramFault::NoMemory),
+    programs_are_definite();
+    match parse_procedure(alloc, &entries[read.used as usize..]) {
+        Ok(found) => Ok(with_front(read.front, found)),
+        Err(ParseFault::Nesting(line)) => Err(ProgramFault::Nesting(line)),
+        Err(ParseFault::NoEntry(line)) => Err(ProgramFault::Entries(line)),
+        Err(ParseFault::NoMemory) => Err(ProgramFault::NoMemory),
     }
 }
 
-/// Whether entries are a program: a front with STOP RUN behind it.
-fn check_entries(alloc: Global, entries: &[Entry]) -> Result<(), ProgramFault>
-    ensures program { OnOk result ((read : Front) × IsProgram entries.now read) }
+/// The program of entries.
+fn program_of_entries(alloc: Global, entries: &[Entry]) -> Result<Program, ProgramFault>
+    ensures program { IfOk result (λ program. IsProgram entries.now program) }
     ensures fault { IfErr result (λ fault. IsCheckFault entries.now fault) }
 {
     // An entry number is a `u32`; there is no memory for more entries.
@@ -146,10 +114,35 @@ fn check_entries(alloc: Global, entries: &[Entry]) -> Result<(), ProgramFault>
         return Err(ProgramFault::NoMemory);
     }
     match parse_front(alloc, entries) {
-        Ok(read) => check_behind(alloc, entries, read),
+        Ok(read) => program_behind(alloc, entries, read),
         Err(ParseFault::Nesting(line)) => Err(ProgramFault::Nesting(line)),
         Err(ParseFault::NoEntry(line)) => Err(ProgramFault::Entries(line)),
         Err(ParseFault::NoMemory) => Err(ProgramFault::NoMemory),
+    }
+}
+
+/// The program of a text, whether it keeps the rules or not.
+fn program_of_text(alloc: Global, text: &[u8]) -> Result<Program, ProgramFault>
+    requires { length text.now < 2 ^ 31 }
+    ensures program { IfOk result (λ program. HasProgram text.now program) }
+    ensures fault { IfErr result (λ fault. FailsOrNoMemory Check fault text.now) }
+{
+    let entries = entries_of(alloc, text)?;
+    program_of_entries(alloc, entries.as_slice())
+}
+
+/// Reads the text of a program and checks it: the program with its layout and the shapes of its files, or the first pass that
+/// refuses it, with the line and, where the pass has several, the reason.
+pub fn read_program(alloc: Global, text: &[u8]) -> Result<Checked, ProgramFault>
+    requires { length text.now < 2 ^ 31 }
+    ensures program { IfOk result (λ checked. HasProgram text.now checked.program × IsInProfile (seen_checked checked)) }
+    ensures fault { IfErr result (λ fault. FailsOrNoMemory Check fault text.now) }
+{
+    let program = program_of_text(alloc, text)?;
+    match cobol_checker::check(alloc, program) {
+        Ok(checked) => Ok(checked),
+        Err(CheckFault::Reason { line, reason }) => Err(ProgramFault::Profile { line, reason }),
+        Err(CheckFault::NoMemory) => Err(ProgramFault::NoMemory),
     }
 }
 
@@ -159,9 +152,8 @@ fn check(alloc: Global, text: &[u8]) -> Result<Vec<u8>, ProgramFault>
     ensures output { IfOk result (λ output. Prints Check text.now output.items) }
     ensures fault { IfErr result (λ fault. FailsOrNoMemory Check fault text.now) }
 {
-    let entries = entries_of(alloc, text)?;
-    check_entries(alloc, entries.as_slice())?;
-    match Vec::from_slice(alloc, b"front read\n") {
+    read_program(alloc, text)?;
+    match Vec::from_slice(alloc, b"program read\n") {
         Ok(output) => Ok(output),
         Err(_) => Err(ProgramFault::NoMemory),
     }

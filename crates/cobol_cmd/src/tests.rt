@@ -237,14 +237,14 @@ fn small_programs_go_by_their_words(rt: HostRuntime) -> Result<(), Fail> {
 }
 
 /// Texts in free form, with what `check` puts for each.
-const CHECKED: [(&str, &str); 8] = [
+const CHECKED: [(&str, &str); 13] = [
     (
         "IDENTIFICATION DIVISION.\nPROGRAM-ID. A.\nPROCEDURE DIVISION.\nSTOP RUN.",
-        "front read\n",
+        "program read\n",
     ),
     (
         "id division. program-id. a. data division. working-storage section.\n01 x pic 9. procedure division. stop run.",
-        "front read\n",
+        "program read\n",
     ),
     ("", "refused program other.cob entries 1\n"),
     (
@@ -253,21 +253,41 @@ const CHECKED: [(&str, &str); 8] = [
     ),
     (
         "ID DIVISION. PROGRAM-ID. A.\nPROCEDURE DIVISION.",
+        "program read\n",
+    ),
+    (
+        "ID DIVISION. PROGRAM-ID. A.\nPROCEDURE DIVISION.\nSTOP RUN.\nEND PROGRAM A.\nSTOP RUN.",
+        "refused program other.cob entries 6\n",
+    ),
+    (
+        "ID DIVISION. PROGRAM-ID. A.\nDATA DIVISION.",
         "refused program other.cob entries 3\n",
     ),
     (
-        "ID DIVISION. PROGRAM-ID. A.\nPROCEDURE DIVISION.\nSTOP RUN.\nSTOP RUN.",
+        "ID DIVISION. PROGRAM-ID. A.\nPROCEDURE DIVISION.\nP.\n  IF A = B MOVE C TO D\n  END-IF E.",
         "refused program other.cob entries 5\n",
+    ),
+    (
+        "ID DIVISION. PROGRAM-ID. A.\nPROCEDURE DIVISION.\nCOMPUTE X = ((((((((((((((((((((((((((((((((((((((((((((((((((((((((((((1.",
+        "refused program other.cob nesting 4\n",
     ),
     (
         "ID DIVISION. PROGRAM-ID. A.\nDATA DIVISION.\nWORKING-STORAGE SECTION.\n01 X PIC 9\n  OCCURS.\nPROCEDURE DIVISION. STOP RUN.",
         "refused program other.cob entries 5\n",
     ),
+    (
+        "ID DIVISION. PROGRAM-ID. A.\nDATA DIVISION.\nWORKING-STORAGE SECTION.\n01 X PIC Q.\nPROCEDURE DIVISION. STOP RUN.",
+        "refused program other.cob profile 5 4\n",
+    ),
+    (
+        "ID DIVISION. PROGRAM-ID. A.\nDATA DIVISION.\nWORKING-STORAGE SECTION.\n01 X PIC 9.\n01 Y PIC 9.\n01 x PIC 9.\nPROCEDURE DIVISION. STOP RUN.",
+        "refused program other.cob profile 7 3\n",
+    ),
     ("ID\n?", "refused program other.cob words 3 bad-character\n"),
 ];
 
 #[test]
-fn fronts_are_checked(rt: HostRuntime) -> Result<(), Fail> {
+fn programs_are_checked(rt: HostRuntime) -> Result<(), Fail> {
     let alloc = rt.alloc();
     for (text, line) in &CHECKED {
         let whole = format!(in alloc; ">>SOURCE FREE\n{text}")?;
@@ -282,10 +302,7 @@ fn fronts_are_checked(rt: HostRuntime) -> Result<(), Fail> {
         assert_eq!(rt; outcome.taken.as_slice(), line.as_bytes(), "{text}");
     }
     let hello = done(alloc, &["check", "HELLO.cob"], b"", &[], &[], 4096)?;
-    assert_eq!(rt;
-        hello.taken.as_slice(),
-        b"refused program HELLO.cob entries 9\n".as_slice()
-    );
+    assert_eq!(rt; hello.taken.as_slice(), b"program read\n".as_slice());
     Ok(())
 }
 
