@@ -4,7 +4,6 @@ use Rattle.cob_base.specs.declared.keywords.Keyword.{Keyword}
 use Rattle.cob_base.specs.declared.keywords.Keyword.TheVariants as k
 use Rattle.cob_base.specs.declared.keywords.Mark.{Mark}
 use Rattle.cob_base.specs.declared.keywords.Mark.TheVariants as marks
-use Rattle.cob_base.specs.declared.operands.Constant.{Constant}
 use Rattle.cob_base.specs.declared.operands.Operand.{Operand}
 use Rattle.cob_base.specs.declared.operands.Operand.TheVariants as operands
 use Rattle.cob_base.specs.declared.operands.Reference.{Reference}

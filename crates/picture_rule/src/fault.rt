@@ -2,20 +2,24 @@ ghost use Rattle.std.specs.Prelude.{◌≡◌};
 
 use crate::PictureKind;
 use cob_base::NoMemory;
+use thiserror::Error;
 
 /// Why a text gives no picture.
-#[derive(Clone, Copy, Debug, PartialEq, Eq)]
+#[derive(Clone, Copy, Debug, PartialEq, Eq, Error)]
 pub enum PictureFault {
     /// No form of a picture fits.
+    #[error("no picture")]
     NoPicture,
     /// A form fits, but it is past its limits. `size` is the number of bytes that the text spells, or `u32::MAX` where there
     /// are more.
+    #[error("a picture past its limits, of {size} bytes")]
     TooWide {
         kind: PictureKind,
         size: u32,
         signed: bool,
     },
     /// Want of memory.
+    #[error("memory ran out")]
     NoMemory,
 }
 
