@@ -1,16 +1,21 @@
 -- Items of a name with their numbers, and which of them are chosen.
-use Rattle.std.proofs.Common.{◌≡◌, ◌∙◌, refl, ap, subst, sym, arith, ℕ, zero, suc, ◌+◌, ◌<◌, ◌≤◌, Bool, true, false, ◌&&◌, List, [], ◌∷◌, ◌++◌, length, map, reverse, take, get_or, add-one, Option, Some, None}
+use Rattle.std.proofs.Common.{◌≡◌, ◌∙◌, refl, ap, subst, sym, arith, ℕ, zero, suc, ◌+◌, ◌<◌, ◌≤◌, Bool, true, false, ◌&&◌, ◌||◌, List, [], ◌∷◌, ◌++◌, length, map, reverse, take, get_or, add-one, Option, Some, None}
 use Rattle.std.specs.Prelude.{if◌then◌else◌, filter, slice_get}
 use Rattle.data_names.specs.Items.{DataItem}
 use Rattle.data_names.specs.Spots.{Spot, spots, spots_after}
-use Rattle.data_names.specs.References.{is_called, is_qualified, names_around, matching}
+use Rattle.data_names.specs.References.{same_name, is_called, is_qualified, names_around, is_match, matching}
 use Rattle.data_names.specs.declared.table.Found.{Found}
 use Rattle.data_names.specs.declared.table.Found.TheVariants.{Nothing, One, Several}
 use Rattle.data_names.specs.Table.{IsFound, IsAmong, is_choice}
 use Rattle.data_names.proofs.Opened.{map-filter}
 use Rattle.std.proofs.lemmas.List.{length-map}
 use Rattle.std.proofs.lemmas.List.Elements.{filter-append}
+use Rattle.std.specs.List.{list_any}
+use Rattle.std.specs.Str.{bytes_eq}
+use Rattle.std.specs.Cmp.Lexicographic.{bytes_decides, nat_list_eq_equiv}
+use Rattle.std.proofs.lemmas.Bool.{false≢true}
 use Rattle.data_names.specs.Names.{numbers_from, is_under, in_small}
+use Rattle.data_names.specs.Pairs.{IsCover, pair_key, is_pair, is_in, is_under_pair}
 
 -- those that pass, with their numbers
 abbrev pub pairs_from : {A : Type 0} → ℕ → (A → Bool) → List A → List (ℕ × A)
@@ -84,16 +89,17 @@ pub numbers_of_spots : {A : Type 0} (n : ℕ) (test : A → Bool) (before items 
 numbers_of_spots n test before [] = refl
 numbers_of_spots n test before (x ∷ items) = same_choice (test x) n _ _ (numbers_of_spots (n + 1) test (before ++ x ∷ []) items)
 
-both_step : {A : Type 0} (a b : Bool) (x : A) (xs : List A) (test : A → Bool) (ys : List A) → test x ≡ b → xs ≡ filter test ys
-    → (if a && b then x ∷ xs else xs) ≡ filter test (if a then x ∷ ys else ys)
-both_step true true x xs test ys e h = rw e (ap (λ zs. x ∷ zs) h)
-both_step true false x xs test ys e h = rw e h
-both_step false b x xs test ys e h = h
+covered_step : {A : Type 0} (a b : Bool) (p : A → Bool) (x : A) (xs ys : List A) → p x ≡ a → (a ≡ true → b ≡ true) → filter p xs ≡ filter p ys
+    → (if a then x ∷ filter p xs else filter p xs) ≡ filter p (if b then x ∷ ys else ys)
+covered_step true true p x xs ys e h k = rw e (ap (λ zs. x ∷ zs) k)
+covered_step true false p x xs ys e h k = absurd (false≢true (h refl))
+covered_step false true p x xs ys e h k = rw e k
+covered_step false false p x xs ys e h k = k
 
--- choosing twice
-pub filter_both : {A : Type 0} (first named second : A → Bool) (xs : List A) → ((x : A) → first x ≡ named x) → filter (λ x. first x && second x) xs ≡ filter second (filter named xs)
-filter_both first named second [] e = refl
-filter_both first named second (x ∷ xs) e = rw (e x) (both_step (named x) (second x) x (filter (λ y. first y && second y) xs) second (filter named xs) refl (filter_both first named second xs e))
+-- choosing among some that have all that pass
+pub filter_covered : {A : Type 0} (p test : A → Bool) (xs : List A) → ((x : A) → p x ≡ true → test x ≡ true) → filter p xs ≡ filter p (filter test xs)
+filter_covered p test [] h = refl
+filter_covered p test (x ∷ xs) h = covered_step (p x) (test x) p x xs (filter test xs) refl (h x) (filter_covered p test xs h)
 
 -- a name is called so where it is under it in small letters
 pub called_is_under : (name : List ℕ) (other : Option (List ℕ)) → is_called name other ≡ is_under (in_small name) other
@@ -111,21 +117,20 @@ length-filter-take test (suc k) (x ∷ xs) = counted (test x) x _ _ (length-filt
 
 -- ---- a table
 
--- the items of a name in small letters, with their numbers
-abbrev pub named_pairs : List DataItem → List ℕ → List (ℕ × Spot DataItem)
-named_pairs items key = pairs_from 0 (λ spot. is_under key spot.item.text.name) (spots items)
+-- the items that pass, with their numbers
+abbrev pub passing : List DataItem → (Spot DataItem → Bool) → List (ℕ × Spot DataItem)
+passing items test = pairs_from 0 test (spots items)
 
-pub numbers_named : (items : List DataItem) (key : List ℕ) → numbers_from 0 (λ item. is_under key item.text.name) items ≡ map (λ p. p.0) (named_pairs items key)
-numbers_named items key =
-    sym (numbers_of_spots 0 (λ (item : DataItem). is_under key item.text.name) [] items) ∙ sym (numbers_of_pairs 0 (λ (spot : Spot DataItem). is_under key spot.item.text.name) (spots items))
+-- the numbers under a name are those of the items of that name
+pub numbers_named : (items : List DataItem) (key : List ℕ) → numbers_from 0 (λ item. is_under key item.text.name) items ≡ numbers_from 0 (λ spot. is_under key spot.item.text.name) (spots items)
+numbers_named items key = sym (numbers_of_spots 0 (λ (item : DataItem). is_under key item.text.name) [] items)
 
--- those that match are those of the name that are chosen
-pub matching_is : (items : List DataItem) (name : List ℕ) (qualifiers : List (List ℕ)) → matching items name qualifiers ≡ map (λ p. p.1) (filter (is_choice qualifiers) (named_pairs items (in_small name)))
-matching_is items name qualifiers =
-    let second : Spot DataItem → Bool = λ (spot : Spot DataItem). is_qualified qualifiers (reverse (names_around spot)) in
-    filter_both (λ (spot : Spot DataItem). is_called name spot.item.text.name) (λ (spot : Spot DataItem). is_under (in_small name) spot.item.text.name) second (spots items) (λ spot. called_is_under name spot.item.text.name)
-    ∙ ap (filter second) (sym (values_of_pairs 0 (λ (spot : Spot DataItem). is_under (in_small name) spot.item.text.name) (spots items)))
-    ∙ sym (map-filter (λ (p : ℕ × Spot DataItem). p.1) second (named_pairs items (in_small name)))
+-- those that match are those that pass and match
+pub matching_is : (items : List DataItem) (name : List ℕ) (qualifiers : List (List ℕ)) (test : Spot DataItem → Bool) → ((spot : Spot DataItem) → is_match name qualifiers spot ≡ true → test spot ≡ true)
+    → matching items name qualifiers ≡ map (λ p. p.1) (filter (is_choice name qualifiers) (passing items test))
+matching_is items name qualifiers test h =
+    filter_covered (is_match name qualifiers) test (spots items) h ∙ ap (filter (is_match name qualifiers)) (sym (values_of_pairs 0 test (spots items)))
+    ∙ sym (map-filter (λ (p : ℕ × Spot DataItem). p.1) (is_match name qualifiers) (passing items test))
 
 -- a pair that is left stands at its number
 pub placed_filter : {A : Type 0} (all : List A) (test : ℕ × A → Bool) (pairs : List (ℕ × A)) → ArePlaced all pairs → ArePlaced all (filter test pairs)
@@ -137,36 +142,119 @@ placed_filter all test (p ∷ pairs) h = kept_or_not all (test p) p _ h.0 (place
     kept_or_not every false q rest e k = k
 
 -- what all pairs come to
-pub found_all : (items : List DataItem) (name : List ℕ) (qualifiers : List (List ℕ)) (found : Found) → IsAmong (filter (is_choice qualifiers) (named_pairs items (in_small name))) found → IsFound items name qualifiers found
-found_all items name qualifiers Nothing h = matching_is items name qualifiers ∙ ap (map (λ (p : ℕ × Spot DataItem). p.1)) h
-found_all items name qualifiers (One at) h =
-    let placed = placed_filter (spots items) (is_choice qualifiers) _ (are_placed (λ (spot : Spot DataItem). is_under (in_small name) spot.item.text.name) (spots items)) in
+pub found_all : (items : List DataItem) (name : List ℕ) (qualifiers : List (List ℕ)) (test : Spot DataItem → Bool) (found : Found) → ((spot : Spot DataItem) → is_match name qualifiers spot ≡ true → test spot ≡ true)
+    → IsAmong (filter (is_choice name qualifiers) (passing items test)) found → IsFound items name qualifiers found
+found_all items name qualifiers test Nothing c h = matching_is items name qualifiers test c ∙ ap (map (λ (p : ℕ × Spot DataItem). p.1)) h
+found_all items name qualifiers test (One at) c h =
+    let placed = placed_filter (spots items) (is_choice name qualifiers) _ (are_placed test (spots items)) in
     let one = subst (λ (pairs : List (ℕ × Spot DataItem)). ArePlaced (spots items) pairs) h.1 placed in
-    (h.0, one.0, matching_is items name qualifiers ∙ ap (map (λ (p : ℕ × Spot DataItem). p.1)) h.1)
-found_all items name qualifiers Several h =
-    rw (matching_is items name qualifiers) (omega (arith, h, length-map (filter (is_choice qualifiers) (named_pairs items (in_small name))) (λ (p : ℕ × Spot DataItem). p.1)))
+    (h.0, one.0, matching_is items name qualifiers test c ∙ ap (map (λ (p : ℕ × Spot DataItem). p.1)) h.1)
+found_all items name qualifiers test Several c h =
+    rw (matching_is items name qualifiers test c) (omega (arith, h, length-map (filter (is_choice name qualifiers) (passing items test)) (λ (p : ℕ × Spot DataItem). p.1)))
+
+-- the numbers are those of the pairs
+pub numbers_passing : (items : List DataItem) (test : Spot DataItem → Bool) (numbers : List ℕ) → numbers ≡ numbers_from 0 test (spots items) → numbers ≡ map (λ (p : ℕ × Spot DataItem). p.0) (passing items test)
+numbers_passing items test numbers e = e ∙ sym (numbers_of_pairs 0 test (spots items))
 
 -- a turn at the number at place k
-pub turn : (items : List DataItem) (key numbers : List ℕ) (k : ℕ) → numbers ≡ map (λ (p : ℕ × Spot DataItem). p.0) (named_pairs items key) → k < length numbers → Chosen (spots items) (named_pairs items key) k (get_or numbers k 0)
-turn items key numbers k e l =
-    let pairs = named_pairs items key in
+pub turn : (items : List DataItem) (test : Spot DataItem → Bool) (numbers : List ℕ) (k : ℕ) → numbers ≡ map (λ (p : ℕ × Spot DataItem). p.0) (passing items test) → k < length numbers
+    → Chosen (spots items) (passing items test) k (get_or numbers k 0)
+turn items test numbers k e l =
+    let pairs = passing items test in
     let within : k < length pairs = omega (arith, ap length e, length-map pairs (λ (p : ℕ × Spot DataItem). p.0)) in
-    chosen_at (spots items) pairs k (get_or numbers k 0) (are_placed (λ (spot : Spot DataItem). is_under key spot.item.text.name) (spots items)) within (ap (λ ns. get_or ns k 0) e)
+    chosen_at (spots items) pairs k (get_or numbers k 0) (are_placed test (spots items)) within (ap (λ ns. get_or ns k 0) e)
 
 pub turned : {A : Type 0} (all : List A) (pairs : List (ℕ × A)) (k at : ℕ) (test : ℕ × A → Bool) (t : Chosen all pairs k at) → filter test (take (k + 1) pairs) ≡ filter test (take k pairs) ++ filter test ((at, t.one) ∷ [])
 turned all pairs k at test t = let next : k + 1 ≡ suc k = add-one k in rw next (ap (filter test) t.more ∙ filter-append test (take k pairs) ((at, t.one) ∷ []))
 
 -- what the numbers come to after a turn
-pub after_turn : (items : List DataItem) (key numbers : List ℕ) (k : ℕ) (qualifiers : List (List ℕ)) (result : Found) (t : Chosen (spots items) (named_pairs items key) k (get_or numbers k 0))
-    → IsAmong (filter (is_choice qualifiers) (take k (named_pairs items key)) ++ filter (is_choice qualifiers) ((get_or numbers k 0, t.one) ∷ [])) result
-    → IsAmong (filter (is_choice qualifiers) (take (k + 1) (named_pairs items key))) result
-after_turn items key numbers k qualifiers result t h =
-    subst (λ (some : List (ℕ × Spot DataItem)). IsAmong some result) (sym (turned (spots items) (named_pairs items key) k (get_or numbers k 0) (is_choice qualifiers) t)) h
+pub after_turn : (items : List DataItem) (test : Spot DataItem → Bool) (numbers : List ℕ) (k : ℕ) (name : List ℕ) (qualifiers : List (List ℕ)) (result : Found) (t : Chosen (spots items) (passing items test) k (get_or numbers k 0))
+    → IsAmong (filter (is_choice name qualifiers) (take k (passing items test)) ++ filter (is_choice name qualifiers) ((get_or numbers k 0, t.one) ∷ [])) result
+    → IsAmong (filter (is_choice name qualifiers) (take (k + 1) (passing items test))) result
+after_turn items test numbers k name qualifiers result t h =
+    subst (λ (some : List (ℕ × Spot DataItem)). IsAmong some result) (sym (turned (spots items) (passing items test) k (get_or numbers k 0) (is_choice name qualifiers) t)) h
 
 -- several among the first are several among all
-pub several_all : (items : List DataItem) (name : List ℕ) (qualifiers : List (List ℕ)) (k : ℕ) (result : Found) → result ≡ Several
-    → IsAmong (filter (is_choice qualifiers) (take k (named_pairs items (in_small name)))) result → IsFound items name qualifiers result
-several_all items name qualifiers k result e h =
+pub several_all : (items : List DataItem) (name : List ℕ) (qualifiers : List (List ℕ)) (test : Spot DataItem → Bool) (k : ℕ) (result : Found) → ((spot : Spot DataItem) → is_match name qualifiers spot ≡ true → test spot ≡ true) → result ≡ Several
+    → IsAmong (filter (is_choice name qualifiers) (take k (passing items test))) result → IsFound items name qualifiers result
+several_all items name qualifiers test k result c e h =
     let some = rw e at h in
-    let all : IsAmong (filter (is_choice qualifiers) (named_pairs items (in_small name))) Several = omega (arith, some, length-filter-take (is_choice qualifiers) k (named_pairs items (in_small name))) in
-    subst (λ (found : Found). IsFound items name qualifiers found) (sym e) (found_all items name qualifiers Several all)
+    let all : IsAmong (filter (is_choice name qualifiers) (passing items test)) Several = omega (arith, some, length-filter-take (is_choice name qualifiers) k (passing items test)) in
+    subst (λ (found : Found). IsFound items name qualifiers found) (sym e) (found_all items name qualifiers test Several c all)
+
+-- ---- covers
+
+-- the items of a name are among those under it
+pub named_cover : (items : List DataItem) (name : List ℕ) (qualifiers : List (List ℕ)) (numbers : List ℕ) → numbers ≡ numbers_from 0 (λ item. is_under (in_small name) item.text.name) items → IsCover items name qualifiers numbers
+named_cover items name qualifiers numbers e = record {
+  test = λ (spot : Spot DataItem). is_under (in_small name) spot.item.text.name;
+  numbers_are = e ∙ numbers_named items (in_small name);
+  covers = λ spot h. sym (called_is_under name spot.item.text.name) ∙ first_holds (is_called name spot.item.text.name) (is_qualified qualifiers (reverse (names_around spot))) h;
+}
+  where
+    first_holds : (a b : Bool) → (a && b) ≡ true → a ≡ true
+    first_holds true b h = refl
+    first_holds false b h = absurd (false≢true h)
+
+same_key : (name other group inner : List ℕ) → same_name other name ≡ true → same_name inner group ≡ true → bytes_eq (pair_key other inner) (pair_key name group) ≡ true
+same_key name other group inner e h =
+    let first : in_small other ≡ in_small name = (bytes_decides (in_small other) (in_small name)).0 e in
+    let second : in_small inner ≡ in_small group = (bytes_decides (in_small inner) (in_small group)).0 h in
+    let keys : pair_key other inner ≡ pair_key name group = ap (λ (front : List ℕ). front ++ (32 ∷ in_small inner)) first ∙ ap (λ (back : List ℕ). in_small name ++ (32 ∷ back)) second in
+    ap (λ (key : List ℕ). bytes_eq key (pair_key name group)) keys ∙ nat_list_eq_equiv.refl (pair_key name group)
+
+or_true : (a b : Bool) → b ≡ true → (a || b) ≡ true
+or_true true b h = refl
+or_true false b h = h
+
+-- what the first qualifier leaves for the others
+each_step : (qualifier : List ℕ) (others : List (List ℕ)) (group : Option (List ℕ)) (groups : List (Option (List ℕ))) (i : ℕ) (d : List ℕ) (b : Bool) → is_called qualifier group ≡ b → i < length (qualifier ∷ others)
+    → (if b then is_qualified others groups else is_qualified (qualifier ∷ others) groups) ≡ true
+    → ((j : ℕ) → j < length others → is_qualified others groups ≡ true → list_any (is_called (get_or others j d)) groups ≡ true)
+    → (is_qualified (qualifier ∷ others) groups ≡ true → list_any (is_called (get_or (qualifier ∷ others) i d)) groups ≡ true)
+    → (is_called (get_or (qualifier ∷ others) i d) group || list_any (is_called (get_or (qualifier ∷ others) i d)) groups) ≡ true
+each_step qualifier others group groups zero d true e l h here later = ap (λ (b : Bool). b || list_any (is_called qualifier) groups) e
+each_step qualifier others group groups (suc j) d true e l h here later = or_true (is_called (get_or others j d) group) (list_any (is_called (get_or others j d)) groups) (here j (omega arith) h)
+each_step qualifier others group groups i d false e l h here later =
+    or_true (is_called (get_or (qualifier ∷ others) i d) group) (list_any (is_called (get_or (qualifier ∷ others) i d)) groups) (later h)
+
+-- each of the qualifiers is the name of one of the groups
+pub each_called : (qualifiers : List (List ℕ)) (groups : List (Option (List ℕ))) (i : ℕ) (d : List ℕ) → i < length qualifiers → is_qualified qualifiers groups ≡ true
+    → list_any (is_called (get_or qualifiers i d)) groups ≡ true
+each_called [] groups i d l h = absurd (omega arith)
+each_called (qualifier ∷ others) [] i d l h = absurd (false≢true h)
+each_called (qualifier ∷ others) (group ∷ groups) i d l h =
+    each_step qualifier others group groups i d (is_called qualifier group) refl l h (λ j k q. each_called others groups j d k q) (λ q. each_called (qualifier ∷ others) groups i d l q)
+
+called_step : (name other group inner : List ℕ) (groups : List (Option (List ℕ))) (b : Bool) → same_name other name ≡ true → same_name inner group ≡ b → (b || list_any (is_called group) groups) ≡ true
+    → (list_any (is_called group) groups ≡ true → list_any (is_pair (pair_key name group) other) groups ≡ true)
+    → (bytes_eq (pair_key other inner) (pair_key name group) || list_any (is_pair (pair_key name group) other) groups) ≡ true
+called_step name other group inner groups true e s h later = ap (λ (b : Bool). b || list_any (is_pair (pair_key name group) other) groups) (same_key name other group inner e s)
+called_step name other group inner groups false e s h later = or_true (bytes_eq (pair_key other inner) (pair_key name group)) (list_any (is_pair (pair_key name group) other) groups) (later h)
+
+-- where one of the groups has a name, the key is that of one of the groups
+pub called_pair : (name other group : List ℕ) (groups : List (Option (List ℕ))) → same_name other name ≡ true → list_any (is_called group) groups ≡ true
+    → list_any (is_pair (pair_key name group) other) groups ≡ true
+called_pair name other group [] e h = absurd (false≢true h)
+called_pair name other group (None ∷ groups) e h = called_pair name other group groups e h
+called_pair name other group (Some inner ∷ groups) e h =
+    called_step name other group inner groups (same_name inner group) e refl h (λ q. called_pair name other group groups e q)
+
+-- a qualifier with the name is the pair of an item that matches
+under_pair : (name : List ℕ) (qualifiers : List (List ℕ)) (i : ℕ) (d : List ℕ) (called : Option (List ℕ)) (groups : List (Option (List ℕ))) → i < length qualifiers → (is_called name called && is_qualified qualifiers groups) ≡ true
+    → is_in (pair_key name (get_or qualifiers i d)) called groups ≡ true
+under_pair name qualifiers i d None groups l h = absurd (false≢true h)
+under_pair name qualifiers i d (Some other) groups l h = both (same_name other name) refl h
+  where
+    both : (b : Bool) → same_name other name ≡ b → (b && is_qualified qualifiers groups) ≡ true → list_any (is_pair (pair_key name (get_or qualifiers i d)) other) groups ≡ true
+    both true s k = called_pair name other (get_or qualifiers i d) groups s (each_called qualifiers groups i d l k)
+    both false s k = absurd (false≢true k)
+
+-- the items that match are among those under the pair of the name and one of the qualifiers
+pub paired_cover : (items : List DataItem) (name : List ℕ) (qualifiers : List (List ℕ)) (i : ℕ) (d : List ℕ) (numbers : List ℕ) → i < length qualifiers
+    → numbers ≡ numbers_from 0 (is_under_pair (pair_key name (get_or qualifiers i d))) (spots items) → IsCover items name qualifiers numbers
+paired_cover items name qualifiers i d numbers l e = record {
+  test = is_under_pair (pair_key name (get_or qualifiers i d));
+  numbers_are = e;
+  covers = λ spot h. under_pair name qualifiers i d spot.item.text.name (reverse (names_around spot)) l h;
+}

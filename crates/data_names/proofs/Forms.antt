@@ -1,11 +1,11 @@
 -- A text is one picture at most.
 use Rattle.std.proofs.Common.{◌≡◌, ℕ, zero, suc, ◌+◌, ◌<◌, ◌⊎◌, inl, inr, Bool, true, false, List, [], ◌∷◌, ◌++◌, length, append-nil, replicate, refl, sym, ◌∙◌, ap, subst, arith}
 use Rattle.std.specs.Prelude.{codes, count_by, nat_eq, if◌then◌else◌}
-use Rattle.std.proofs.lemmas.Bool.{and_parts, false≢true}
-use Rattle.picture_rule.proofs.Extends.{count-append, all_append}
-use Rattle.picture_rule.specs.Picture.{Form, HasForm, is_among, AllAmong, is_digit_mark, OneOf, endings, IsAlphanumeric, IsNumeric, IsEdited}
-use Rattle.picture_rule.specs.Text.{Writes, Spells}
-use Rattle.picture_rule.specs.declared.kind.PictureKind.TheVariants.{Alphanumeric, Numeric, Edited}
+use Rattle.std.proofs.lemmas.Bool.{and_parts}
+use Rattle.picture_rule.proofs.Extends.{count-append}
+use Rattle.picture_rule.specs.Picture.{Form, HasForm, is_among, AllAmong, is_digit_mark, OneOf, endings, IsNumeric, IsEdited}
+use Rattle.picture_rule.specs.Text.{Spells}
+use Rattle.picture_rule.specs.declared.kind.PictureKind.TheVariants.{Numeric, Edited}
 use Rattle.picture_rule.proofs.Fronts.{writes_once}
 use Rattle.picture_rule.proofs.EditedParts.{nine_digits, after_digits}
 use Rattle.picture_rule.proofs.Apart.{Among, among, plain_marks, before_marks, currency_marks, body_marks, after_marks, letters_numeric, letters_edited, numeric_edited}

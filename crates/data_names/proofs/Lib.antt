@@ -6,3 +6,5 @@ pub mod Surveys
 pub mod Tables
 pub mod NumbersOf
 pub mod Choices
+pub mod PairsOf
+pub mod Cuts

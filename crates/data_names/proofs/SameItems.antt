@@ -6,8 +6,8 @@ use Rattle.cob_base.specs.declared.line.Line.{Line}
 use Rattle.cob_base.specs.declared.data_entries.DataEntry.{DataEntry}
 use Rattle.cob_base.specs.declared.data_entries.DataEntry.TheVariants.{Item, Condition}
 use Rattle.cob_base.specs.declared.data_entries.ItemEntry.{ItemEntry}
-use Rattle.picture_rule.specs.Picture.{Form, PictureValue, signed_at}
-use Rattle.picture_rule.specs.Text.{Spells, Fits, IsTooWide, picture_of}
+use Rattle.picture_rule.specs.Picture.{PictureValue, signed_at}
+use Rattle.picture_rule.specs.Text.{Fits, IsTooWide, picture_of}
 use Rattle.picture_rule.specs.declared.kind.PictureKind.{PictureKind}
 use Rattle.picture_rule.specs.declared.kind.SignPlace.{SignPlace}
 use Rattle.data_layout.specs.declared.row.Row.{Row}

@@ -1,10 +1,11 @@
 -- What the open groups say of the next item, and what is known after it.
-use Rattle.std.proofs.Common.{◌≡◌, ◌&&◌, ◌<◌, ◌+◌, suc, None, refl, sym, ◌∙◌, ap, subst, Bool, true, false, ℕ, List, [], ◌∷◌, ◌++◌, map, reverse, length, take, drop, get_or, zero, Some, arith}
-use Rattle.std.specs.Prelude.{filter, option_map, slice_get}
+use Rattle.std.proofs.Common.{◌≡◌, ◌&&◌, ◌<◌, ◌+◌, suc, None, refl, sym, ◌∙◌, ap, subst, Bool, true, false, cond, ℕ, List, [], ◌∷◌, ◌++◌, map, reverse, length, take, drop, get_or, zero, Some, arith}
+use Rattle.std.specs.Prelude.{◌≤◌, if◌then◌else◌, filter, option_map, slice_get}
 use Rattle.std.specs.List.{list_any, list_all, last_or, take-map, drop-map}
 use Rattle.std.proofs.lemmas.Simd.{map-map}
-use Rattle.std.proofs.lemmas.List.{map-append, get_or-map, take_more, length-map}
+use Rattle.std.proofs.lemmas.List.{map-append, get_or-map, take_more, length-map, length-take}
 use Rattle.std.proofs.lemmas.List.Folds.{list_all-append}
+use Rattle.std.proofs.lemmas.List.Sums.{sum_by-cons, sum_by-append, count_by-le-length}
 use Rattle.data_layout.specs.declared.row.Row.{Row}
 use Rattle.data_layout.specs.Storage.{goes_on}
 use Rattle.data_layout.specs.Faults.{has_size}
@@ -14,7 +15,7 @@ use Rattle.data_names.specs.declared.facts.Facts.{Facts}
 use Rattle.data_names.specs.Spots.{Spot, spots, spots_after, spot_of, open_after, around}
 use Rattle.data_names.specs.declared.known.KnownItem.{KnownItem}
 use Rattle.data_names.specs.Seen.{seen_item, seen_name}
-use Rattle.data_names.specs.Facts.{IsFacts, AreFactsOf}
+use Rattle.data_names.specs.Facts.{has_bytes, count_with_bytes, IsFacts, AreFactsOf}
 use Rattle.data_names.specs.Survey.{Group, group_of, seen_group}
 use Rattle.data_names.proofs.Opened.{open_after-push, map-filter, list_any-map, last_or-map, spots-more, map-reverse}
 
@@ -48,6 +49,18 @@ sized-push rows row sized e = rw (e, list_all-append has_size rows (row ∷ []))
     and_true true true = refl
     and_true true false = refl
     and_true false b = refl
+
+-- one more row counts where it has bytes
+pub counted-push : (rows : List Row) (row : Row) (n : ℕ) → n ≡ count_with_bytes rows → n + (if has_bytes row then 1 else 0) ≡ count_with_bytes (rows ++ row ∷ [])
+counted-push rows row n e =
+    let one : count_with_bytes (row ∷ []) ≡ (if has_bytes row then 1 else 0) + 0 = sum_by-cons (λ (other : Row). cond (has_bytes other) 1 0) row [] in
+    let all : count_with_bytes (rows ++ row ∷ []) ≡ count_with_bytes rows + count_with_bytes (row ∷ []) = sum_by-append (λ (other : Row). cond (has_bytes other) 1 0) rows (row ∷ []) in
+    omega (arith, e, one, all)
+
+-- no more than there are items
+pub counted_few : (xs : List KnownItem) (k n : ℕ) → k < length xs → n ≡ count_with_bytes (map row_of (map seen_item (take k xs))) → n ≤ k
+counted_few xs k n h e =
+    omega (arith, e, count_by-le-length has_bytes (map row_of (map seen_item (take k xs))), length-map (map seen_item (take k xs)) row_of, length-map (take k xs) seen_item, length-take k xs)
 
 -- the groups after the item
 pub groups-push : (before : List DataItem) (item : DataItem) (left : List OpenGroup) (group : OpenGroup) → map seen_group left ≡ map group_of (around (λ other. other.row) before item)

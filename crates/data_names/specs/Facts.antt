@@ -1,8 +1,8 @@
 -- What an item's surroundings say of it, as the code keeps it.
-use Rattle.std.specs.Prelude.{◌≡◌, ℕ, ◌&&◌, ◌==◌, if◌then◌else◌, List, [], ◌∷◌, ◌++◌, map, reverse, None, option_map}
+use Rattle.std.specs.Prelude.{◌≡◌, ℕ, Bool, not, ◌&&◌, ◌==◌, if◌then◌else◌, List, [], ◌∷◌, ◌++◌, map, count_by, reverse, None, option_map}
 use Rattle.std.specs.List.{list_all, last_or}
 use Rattle.data_layout.specs.declared.row.Row.{Row}
-use Rattle.data_layout.specs.Storage.{storage, members}
+use Rattle.data_layout.specs.Storage.{storage, members, own_size}
 use Rattle.data_layout.specs.Faults.{has_size, level_fits}
 use Rattle.data_layout.specs.Walk.{counted}
 use Rattle.data_names.specs.declared.facts.Facts.{Facts}
@@ -18,6 +18,18 @@ number_of item = item.row.number
 abbrev pub record_bytes : Row → List Row → ℕ
 record_bytes row rest = if row.in_file && (row.level == 1) then storage (row ∷ members row rest) else 0
 
+-- an elementary item with bytes
+abbrev pub has_bytes : Row → Bool
+has_bytes row = not (own_size row == 0)
+
+-- how many elementary items with bytes some rows have
+abbrev pub count_with_bytes : List Row → ℕ
+count_with_bytes rows = count_by has_bytes rows
+
+-- how many elementary items with bytes an item has: a group its members, any other itself
+abbrev pub count_inside : Row → List Row → ℕ
+count_inside row rest = if row.group then count_with_bytes (members row rest) else count_with_bytes (row ∷ [])
+
 pub record IsFacts (spot : Spot DataItem) (facts : Facts) : Type 0 where
   pub parent : facts.parent ≡ option_map number_of (last_or None (groups_of spot))
   pub groups : map seen_name facts.groups.items ≡ reverse (names_around spot)
@@ -30,6 +42,8 @@ pub record IsFacts (spot : Spot DataItem) (facts : Facts) : Type 0 where
   pub bytes : facts.bytes ≡ counted (bytes_of spot)
   pub before : facts.before ≡ counted (storage (rows_before spot))
   pub after : facts.after ≡ counted (storage (rows_before spot ++ spot.item.row ∷ []))
+  pub with_bytes_before : facts.with_bytes_before ≡ count_with_bytes (rows_before spot)
+  pub with_bytes : facts.with_bytes ≡ count_inside spot.item.row (rows_after spot)
   pub sized_so_far : facts.sized_so_far ≡ list_all has_size (rows_before spot ++ spot.item.row ∷ [])
   pub record_is : facts.record_bytes ≡ counted (record_bytes spot.item.row (rows_after spot))
 

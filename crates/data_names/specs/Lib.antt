@@ -6,5 +6,6 @@ pub mod References
 pub mod Seen
 pub mod Facts
 pub mod Names
+pub mod Pairs
 pub mod Survey
 pub mod Table

@@ -1,5 +1,6 @@
 -- The numbers of the items of each name.
-use Rattle.std.specs.Prelude.{◌≡◌, ℕ, ◌+◌, Bool, false, if◌then◌else◌, List, [], ◌∷◌, map, Option, Some, None}
+use Rattle.std.specs.Prelude.{◌≡◌, ℕ, ◌+◌, ◌==◌, Bool, false, if◌then◌else◌, List, [], ◌∷◌, ◌++◌, map, Option, Some, None}
+use Rattle.std.specs.List.{last_or}
 use Rattle.std.specs.Option.{option_map_or}
 use Rattle.std.specs.Ordering.{nat_cmp}
 use Rattle.std.specs.Cmp.Lexicographic.{slice_cmp}
@@ -30,3 +31,15 @@ numbers_under names key = option_map_or (λ numbers. numbers.items) (get_by (λ 
 -- the numbers of these items are in the table, each under its name
 abbrev pub AreNames : List DataItem → Names → Type 0
 AreNames items names = (key : List ℕ) → numbers_under names key ≡ numbers_from 0 (λ item. is_under key item.text.name) items
+
+-- the last of some numbers is this one
+abbrev pub is_number : ℕ → Option ℕ → Bool
+is_number number None = false
+is_number number (Some last) = last == number
+
+abbrev pub ends_with : ℕ → List ℕ → Bool
+ends_with number numbers = is_number number (last_or None numbers)
+
+-- the numbers with this one at their end
+abbrev pub with_number : List ℕ → ℕ → List ℕ
+with_number numbers number = if ends_with number numbers then numbers else numbers ++ number ∷ []

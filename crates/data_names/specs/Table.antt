@@ -1,5 +1,5 @@
 -- What the table of a program's items finds.
-use Rattle.std.specs.Prelude.{◌≡◌, ℕ, ◌<◌, Bool, reverse, List, [], ◌∷◌, length, map, Option, Some, None, slice_get}
+use Rattle.std.specs.Prelude.{◌≡◌, ℕ, ◌<◌, Bool, List, [], ◌∷◌, length, map, Option, Some, None, slice_get}
 use Rattle.cob_base.specs.declared.operands.Reference.{Reference}
 use Rattle.data_names.specs.declared.table.Found.{Found}
 use Rattle.data_names.specs.declared.table.Found.TheVariants.{Nothing, One, Several}
@@ -9,7 +9,8 @@ use Rattle.data_names.specs.Spots.{Spot, spots}
 use Rattle.data_names.specs.Seen.{seen_item}
 use Rattle.data_names.specs.Facts.{AreFacts}
 use Rattle.data_names.specs.Names.{AreNames}
-use Rattle.data_names.specs.References.{matching, found, is_qualified, names_around}
+use Rattle.data_names.specs.Pairs.{ArePairs}
+use Rattle.data_names.specs.References.{matching, found, is_match}
 
 -- the items of a table
 abbrev pub items_of : Table → List DataItem
@@ -19,6 +20,7 @@ items_of table = map seen_item table.items.now
 pub record IsTable (table : Table) : Type 0 where
   pub facts : AreFacts (items_of table) table.facts.now
   pub names : AreNames (items_of table) table.names.now
+  pub pairs : ArePairs (items_of table) table.pairs.now
 
 -- no item of this name with these qualifiers, the one of this number alone, or several
 abbrev pub IsFound : List DataItem → List ℕ → List (List ℕ) → Found → Type 0
@@ -32,9 +34,9 @@ IsAmong some Nothing = some ≡ []
 IsAmong some (One at) = (spot : Spot DataItem) × (some ≡ (at, spot) ∷ [])
 IsAmong some Several = 1 < length some
 
--- the qualifiers name groups around the item
-abbrev pub is_choice : List (List ℕ) → ℕ × Spot DataItem → Bool
-is_choice qualifiers one = is_qualified qualifiers (reverse (names_around one.1))
+-- the item has the name, and the qualifiers name groups around it
+abbrev pub is_choice : List ℕ → List (List ℕ) → ℕ × Spot DataItem → Bool
+is_choice name qualifiers one = is_match name qualifiers one.1
 
 -- what a reference stands for, by its number: none where it matches none or several
 abbrev pub IsFoundAt : Table → Reference → Option ℕ → Type 0

@@ -1,4 +1,4 @@
-ghost use Rattle.std.specs.Prelude.{reverse, ◌≡◌, ◌||◌, ◌&&◌, ◌++◌, ◌∷◌, [], List, map, is_some, option_map, None, IfOk};
+ghost use Rattle.std.specs.Prelude.{reverse, ◌≡◌, ◌+◌, ◌^◌, ◌<◌, ◌||◌, ◌&&◌, ◌++◌, ◌∷◌, [], if◌then◌else◌, List, map, is_some, option_map, None, IfOk};
 ghost use Rattle.std.specs.List.{list_any, list_all, last_or};
 ghost use Rattle.data_layout.specs.Storage.{members};
 ghost use Rattle.data_layout.specs.Faults.{has_size};
@@ -7,7 +7,7 @@ ghost use Rattle.data_layout.specs.Walk.{counted};
 ghost use Rattle.data_names.specs.Items.{DataItem};
 ghost use Rattle.data_names.specs.Spots.{has_value, is_record, spot_of};
 ghost use Rattle.data_names.specs.Seen.{seen_item};
-ghost use Rattle.data_names.specs.Facts.{IsFacts, AreFacts, record_bytes};
+ghost use Rattle.data_names.specs.Facts.{has_bytes, count_with_bytes, count_inside, record_bytes, IsFacts, AreFacts};
 ghost use Rattle.data_names.specs.Survey.{IsSurvey};
 
 use crate::item_clauses;
@@ -43,6 +43,10 @@ pub struct Facts<'a> {
     pub before: u64,
     /// The bytes up to its end, as far as they are counted.
     pub after: u64,
+    /// How many elementary items with bytes stand before it.
+    pub with_bytes_before: usize,
+    /// How many elementary items with bytes it has: a group its members, any other itself.
+    pub with_bytes: usize,
     /// Whether every size up to it is known.
     pub sized_so_far: bool,
     /// The bytes of the item with its members by themselves where it is of level 01 in the file section, else 0.
@@ -63,6 +67,7 @@ struct OpenGroup<'a> {
 struct Survey<'a> {
     walk: Walk,
     groups: Vec<OpenGroup<'a>>,
+    with_bytes: usize,
     sized_so_far: bool,
 }
 
@@ -74,6 +79,7 @@ impl<'a> Survey<'a> {
         Survey {
             walk: Walk::new(alloc),
             groups: Vec::new(alloc),
+            with_bytes: 0,
             sized_so_far: true,
         }
     }
@@ -85,6 +91,7 @@ impl<'a> Survey<'a> {
         item: &KnownItem<'a>,
         rest: &[Row],
     ) -> Result<Facts<'a>, NoMemory>
+        requires { self.now.with_bytes < 2 ^ 63 }
         ensures { (before after : List DataItem) → IsSurvey before self.old → map (λ other. other.row) after ≡ rest.now → IfOk result (λ facts. IsFacts (spot_of before (seen_item item.now) after) facts × IsSurvey (before ++ seen_item item.now ∷ []) self.new) }
     {
         let row = item.row;
@@ -93,6 +100,8 @@ impl<'a> Survey<'a> {
         self.groups.retain(|group| does_go_on(&group.row, &row));
         let before = self.walk.total;
         self.walk.enter(&row)?;
+        let with_bytes_before = self.with_bytes;
+        self.with_bytes = count_with(with_bytes_before, &row);
         self.sized_so_far = stays_sized(self.sized_so_far, &row);
         let groups = self.groups.as_slice();
         let repeated = has_occurs(groups);
@@ -108,6 +117,8 @@ impl<'a> Survey<'a> {
             bytes: bytes_of_item(alloc, &row, rest)?,
             before,
             after: self.walk.total,
+            with_bytes_before,
+            with_bytes: with_bytes_of_item(&row, rest),
             sized_so_far: self.sized_so_far,
             record_bytes: bytes_of_record(alloc, &row, rest)?,
         };
@@ -191,6 +202,38 @@ fn are_sized(rows: &[Row]) -> bool
     ensures { result ≡ list_all has_size rows.now }
 {
     rows.iter().all(|row| is_sized(row))
+}
+
+/// Whether a row is an elementary item with bytes.
+fn has_bytes(row: &Row) -> bool
+    ensures { result ≡ has_bytes row.now }
+{
+    own_bytes(row) != 0
+}
+
+/// One more than before where the row is an elementary item with bytes.
+fn count_with(before: usize, row: &Row) -> usize
+    requires { before < 2 ^ 63 }
+    ensures { result ≡ before + (if has_bytes row.now then 1 else 0) }
+{
+    if has_bytes(row) { before + 1 } else { before }
+}
+
+fn count_with_bytes(rows: &[Row]) -> usize
+    ensures { result ≡ count_with_bytes rows.now }
+{
+    rows.iter().filter(|row| has_bytes(row)).count()
+}
+
+/// How many elementary items with bytes an item has.
+fn with_bytes_of_item(row: &Row, rest: &[Row]) -> usize
+    ensures { result ≡ count_inside row.now rest.now }
+{
+    if row.group {
+        count_with_bytes(members_of(row, rest))
+    } else {
+        count_with(0, row)
+    }
 }
 
 fn bytes_of_item(alloc: Global, row: &Row, rest: &[Row]) -> Result<u64, NoMemory>

@@ -6,6 +6,7 @@ mod item_clauses;
 mod known;
 mod laws;
 mod names;
+mod pairs;
 mod parts;
 mod table;
 
@@ -13,6 +14,7 @@ pub use facts::{Facts, facts_of, has_value, is_record};
 pub use item_clauses::{picture, value};
 pub use known::{FiledEntry, KnownItem, Told, known_items, tell};
 pub use laws::{items_are_definite, pictures_are_definite};
-pub use names::{Names, folded, same_name};
+pub use names::{Names, folded, same_name, shorter};
+pub use pairs::Pairs;
 pub use parts::{crt_status, descriptions, files, screen_entries, working_storage};
 pub use table::{Found, Table};

@@ -1,6 +1,6 @@
-ghost use Rattle.std.specs.Prelude.{◌≡◌, ◌++◌, ◌∷◌, [], if◌then◌else◌, ℕ, List, map, IfOk, OnOk};
+ghost use Rattle.std.specs.Prelude.{◌≡◌, ◌⊎◌, ◌++◌, ◌∷◌, [], if◌then◌else◌, ℕ, List, length, map, min, IfOk, OnOk};
 ghost use Rattle.std.specs.Str.{bytes_eq};
-ghost use Rattle.data_names.specs.Names.{in_small, is_under, numbers_under, AreNames};
+ghost use Rattle.data_names.specs.Names.{in_small, is_under, numbers_under, ends_with, with_number, AreNames};
 ghost use Rattle.data_names.specs.References.{same_name};
 ghost use Rattle.data_names.specs.Seen.{seen_item};
 
@@ -27,7 +27,7 @@ pub fn same_name(name: &ByteText, other: &ByteText) -> bool
     name.as_bytes().eq_ignore_ascii_case(other.as_bytes())
 }
 
-/// The numbers of the items of each name, in the order of their entries.
+/// Numbers by names, without regard to case: those of the items of each name, in the order of their entries.
 #[derive(Drop)]
 pub struct Names {
     table: BTreeMap<Vec<u8>, Vec<usize>>,
@@ -56,6 +56,35 @@ impl Names {
         }
     }
 
+    /// No names.
+    pub fn none(alloc: Global) -> Names
+        ensures { (key : List ℕ) → numbers_under result key ≡ [] }
+    {
+        Names {
+            table: BTreeMap::new(alloc),
+        }
+    }
+
+    /// Puts a number under a key, where it is not the last there.
+    pub(crate) fn put(&mut self, alloc: Global, key: Vec<u8>, at: usize) -> Result<(), NoMemory>
+        ensures { OnOk result ((other : List ℕ) → numbers_under self.new other ≡ (if bytes_eq key.items other then with_number (numbers_under self.old other) at else numbers_under self.old other)) }
+    {
+        let mut numbers = self.take(alloc, key.as_slice());
+        push_once(&mut numbers, at)?;
+        self.table.insert(key, numbers)?;
+        Ok(())
+    }
+
+    /// The numbers under a key.
+    pub(crate) fn under(&self, key: &[u8]) -> &[usize]
+        ensures { result.now ≡ numbers_under self.entry.now key.now }
+    {
+        match self.table.get(key) {
+            Some(numbers) => numbers.as_slice(),
+            None => &[],
+        }
+    }
+
     /// Takes the numbers under a key out of the table.
     fn take(&mut self, alloc: Global, key: &[u8]) -> Vec<usize>
         ensures taken { result.items ≡ numbers_under self.old key.now }
@@ -67,7 +96,8 @@ impl Names {
         }
     }
 
-    fn add(&mut self, alloc: Global, name: &[u8], at: usize) -> Result<(), NoMemory>
+    /// Puts a number under a name, behind those there.
+    pub fn add(&mut self, alloc: Global, name: &[u8], at: usize) -> Result<(), NoMemory>
         ensures { OnOk result ((key : List ℕ) → numbers_under self.new key ≡ (if bytes_eq (in_small name.now) key then numbers_under self.old key ++ at ∷ [] else numbers_under self.old key)) }
     {
         let key = folded(alloc, name)?;
@@ -86,5 +116,37 @@ impl Names {
             Some(numbers) => Ok(numbers.as_slice()),
             None => Ok(&[]),
         }
+    }
+}
+
+/// The shorter of two lists of numbers.
+pub fn shorter<'a>(some: &'a [usize], others: &'a [usize]) -> &'a [usize]
+    ensures one { (result.now ≡ some.entry.now) ⊎ (result.now ≡ others.entry.now) }
+    ensures least { length result.now ≡ min (length some.entry.now) (length others.entry.now) }
+{
+    if others.len() < some.len() {
+        others
+    } else {
+        some
+    }
+}
+
+/// Adds a number that is not the last already.
+fn push_once(numbers: &mut Vec<usize>, at: usize) -> Result<(), NoMemory>
+    ensures { OnOk result (numbers.new.items ≡ with_number numbers.old.items at) }
+{
+    if ends_with(numbers.as_slice(), at) {
+        return Ok(());
+    }
+    numbers.push(at)?;
+    Ok(())
+}
+
+fn ends_with(numbers: &[usize], at: usize) -> bool
+    ensures { result ≡ ends_with at numbers.now }
+{
+    match numbers.last() {
+        Some(last) => *last == at,
+        None => false,
     }
 }

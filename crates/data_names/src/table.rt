@@ -1,14 +1,16 @@
-ghost use Rattle.std.specs.Prelude.{◌≡◌, ◌<◌, ℕ, List, [], ◌∷◌, ◌++◌, length, map, filter, reverse, Some, IfOk, slice_get};
+ghost use Rattle.std.specs.Prelude.{◌≡◌, ◌<◌, ℕ, List, [], ◌∷◌, ◌++◌, length, map, filter, Some, IfOk, slice_get};
 ghost use Rattle.data_names.specs.Items.{DataItem};
-ghost use Rattle.data_names.specs.References.{is_called, is_qualified, names_around};
+ghost use Rattle.data_names.specs.References.{is_called, is_qualified, is_match};
 ghost use Rattle.data_names.specs.Spots.{Spot, spots};
 ghost use Rattle.data_names.specs.Seen.{seen_item, seen_name};
 ghost use Rattle.data_names.specs.Facts.{IsFacts};
+ghost use Rattle.data_names.specs.Pairs.{IsCover};
 ghost use Rattle.data_names.specs.Table.{IsTable, IsFound, IsAmong, IsFoundAt, is_choice, items_of};
 
 use crate::facts::Facts;
 use crate::known::KnownItem;
-use crate::names::{Names, same_name};
+use crate::names::{Names, same_name, shorter};
+use crate::pairs::Pairs;
 use cob_base::{ByteText, NoMemory, Reference};
 use std::alloc::Global;
 
@@ -41,6 +43,7 @@ pub struct Table<'a> {
     pub items: &'a [KnownItem<'a>],
     pub facts: &'a [Facts<'a>],
     pub names: &'a Names,
+    pub pairs: &'a Pairs,
 }
 
 impl Table<'_> {
@@ -54,10 +57,10 @@ impl Table<'_> {
         requires { IsTable self.now }
         ensures { IfOk result (λ found. IsFound (items_of self.now) name.now qualifiers.now found) }
     {
-        let numbers = self.names.numbers(alloc, name.as_bytes())?;
+        let numbers = self.candidates(alloc, name, qualifiers)?;
         let mut found = Found::Nothing;
         for at in numbers {
-            found = self.step(qualifiers, found, *at);
+            found = self.step(name, qualifiers, found, *at);
             if let Found::Several = found {
                 return Ok(found);
             }
@@ -65,13 +68,33 @@ impl Table<'_> {
         Ok(found)
     }
 
-    /// What is found after the item of one more number, which counts where the qualifiers name groups around it.
-    fn step(&self, qualifiers: &[ByteText], found: Found, at: usize) -> Found
+    /// The numbers of items among which are all that match: the fewest that the name or one of its pairs gives.
+    fn candidates(
+        &self,
+        alloc: Global,
+        name: &ByteText,
+        qualifiers: &[ByteText],
+    ) -> Result<&[usize], NoMemory>
+        requires { IsTable self.now }
+        ensures { IfOk result (λ numbers. IsCover (items_of self.entry.now) name.now qualifiers.now numbers.now) }
+    {
+        let mut best = self.names.numbers(alloc, name.as_bytes())?;
+        for qualifier in qualifiers {
+            let numbers = self
+                .pairs
+                .numbers(alloc, name.as_bytes(), qualifier.as_bytes())?;
+            best = shorter(best, numbers);
+        }
+        Ok(best)
+    }
+
+    /// What is found after the item of one more number, which counts where it matches.
+    fn step(&self, name: &ByteText, qualifiers: &[ByteText], found: Found, at: usize) -> Found
         requires table { IsTable self.now }
         requires within { at < length self.now.items.now }
-        ensures { (some : List (ℕ × Spot DataItem)) (spot : Spot DataItem) → slice_get (spots (items_of self.now)) at ≡ Some spot → IsAmong some found → IsAmong (some ++ filter (is_choice qualifiers.now) ((at, spot) ∷ [])) result }
+        ensures { (some : List (ℕ × Spot DataItem)) (spot : Spot DataItem) → slice_get (spots (items_of self.now)) at ≡ Some spot → IsAmong some found → IsAmong (some ++ filter (is_choice name.now qualifiers.now) ((at, spot) ∷ [])) result }
     {
-        if self.qualifies(qualifiers, at) {
+        if self.matches(name, qualifiers, at) {
             found.with(at)
         } else {
             found
@@ -95,12 +118,15 @@ impl Table<'_> {
         &self.facts[at]
     }
 
-    /// Whether qualifiers name groups around the item of this number.
-    fn qualifies(&self, qualifiers: &[ByteText], at: usize) -> bool
+    /// Whether the item of this number has this name, and qualifiers name groups around it.
+    fn matches(&self, name: &ByteText, qualifiers: &[ByteText], at: usize) -> bool
         requires table { IsTable self.now }
         requires within { at < length self.now.items.now }
-        ensures { (spot : Spot DataItem) → slice_get (spots (items_of self.now)) at ≡ Some spot → result ≡ is_qualified qualifiers.now (reverse (names_around spot)) }
+        ensures { (spot : Spot DataItem) → slice_get (spots (items_of self.now)) at ≡ Some spot → result ≡ is_match name.now qualifiers.now spot }
     {
+        if !has_name(self.item_at(at), name) {
+            return false;
+        }
         is_qualified(qualifiers, self.facts_at(at).groups.as_slice())
     }
 
@@ -122,6 +148,16 @@ impl Table<'_> {
             Found::One(at) => Ok(Some(at)),
             Found::Several => Ok(None),
         }
+    }
+}
+
+/// Whether an item has this name.
+fn has_name(item: KnownItem, name: &ByteText) -> bool
+    ensures { result ≡ is_called name.now (seen_item item.entry).text.name }
+{
+    match &item.text.name {
+        Some(other) => same_name(other, name),
+        None => false,
     }
 }
 

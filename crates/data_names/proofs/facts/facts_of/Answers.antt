@@ -5,8 +5,11 @@ use Rattle.data_names.specs.Items.{DataItem}
 use Rattle.data_names.specs.Spots.{Spot, spots}
 use Rattle.data_names.specs.Seen.{seen_item}
 use Rattle.data_names.specs.Facts.{AreFactsOf}
-use Rattle.data_names.proofs.Surveys.{step_at, rows_behind, AreFactsOf-push, length-spots}
+use Rattle.data_names.proofs.Surveys.{step_at, rows_behind, AreFactsOf-push, length-spots, counted_few}
 use Rattle.data_names.proofs.facts.facts_of.Goals as goal
+
+pub enter-requires : goal.enter-requires
+enter-requires c = let few = counted_few c.args.items.now c.loop-at.at c.loop-at.survey.with_bytes c.loop-at-test.true c.loop-at.invariant.survey.with_bytes in omega (arith, few)
 
 pub loop-at-preserved : goal.loop-at-preserved
 loop-at-preserved c =

@@ -9,7 +9,7 @@ use Rattle.data_names.specs.Items.{DataItem}
 use Rattle.data_names.specs.Spots.{around, is_record}
 use Rattle.data_names.specs.Seen.{seen_item}
 use Rattle.data_names.specs.Survey.{Group, group_of, seen_group}
-use Rattle.data_names.proofs.Surveys.{kept, same_any, same_last, same_names, sized-push, groups-push}
+use Rattle.data_names.proofs.Surveys.{kept, same_any, same_last, same_names, sized-push, counted-push, groups-push}
 use Rattle.data_names.proofs.facts.Survey.enter.Goals as goal
 
 pub returns : goal.returns
@@ -36,12 +36,15 @@ returns c = λ before after h e.
         bytes = rw e c.in_ok-bytes_of_item.ensures;
         before = between.total;
         after = entered.total;
+        with_bytes_before = h.with_bytes;
+        with_bytes = rw e c.with_bytes_of_item.ensures;
         sized_so_far = c.stays_sized-self.ensures ∙ sized-push rows item.row c.args.self.now.sized_so_far h.sized;
         record_is = rw e c.in_ok-bytes_of_record.ensures;
       },
       record {
         walk = rw (map-append (λ (other : DataItem). other.row) before (item ∷ [])) entered;
         groups = ap (map seen_group) c.in_ok-push.ensures.items ∙ groups-push before item c.retain.new.self.items _ (kept before item c.args.self.now.groups.items c.retain.new.self.items chosen h.groups) (rw (c.as_ref.ensures.value, c.has_value.ensures, c.is_record.ensures) refl);
+        with_bytes = rw (map-append (λ (other : DataItem). other.row) before (item ∷ [])) (c.count_with-self.ensures ∙ counted-push rows item.row c.args.self.now.with_bytes h.with_bytes);
         sized = rw (map-append (λ (other : DataItem). other.row) before (item ∷ [])) (c.stays_sized-self.ensures ∙ sized-push rows item.row c.args.self.now.sized_so_far h.sized);
       },
     )

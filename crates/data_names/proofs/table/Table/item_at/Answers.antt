@@ -1,4 +1,4 @@
-use Rattle.std.proofs.Common.{◌∙◌, ap, sym, []}
+use Rattle.std.proofs.Common.{◌∙◌, []}
 use Rattle.std.proofs.lemmas.List.{get_or-map}
 use Rattle.data_names.specs.Seen.{seen_item}
 use Rattle.data_names.specs.Table.{items_of}
