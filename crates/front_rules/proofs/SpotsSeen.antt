@@ -4,9 +4,9 @@ use Rattle.std.specs.Prelude.{filter}
 use Rattle.std.proofs.lemmas.List.{get_or-map, length-map, take_all}
 use Rattle.cob_base.specs.declared.line.Line.{Line}
 use Rattle.data_names.specs.Spots.{Spot, spots, spot_of}
-use Rattle.front_rules.specs.declared.fault.Fault.{Fault}
-use Rattle.front_rules.specs.Faults.{faults_at, fault_where}
-use Rattle.front_rules.proofs.SpotsOf.{Placed, placed, noted_one, length-spots_after}
+use Rattle.name_rules.specs.declared.fault.Fault.{Fault}
+use Rattle.name_rules.specs.Faults.{faults_at, fault_where}
+use Rattle.name_rules.proofs.SpotsOf.{Placed, placed, noted_one, length-spots_after}
 
 -- an entry of the code's list among the others
 pub placed_seen : {K A : Type 0} (see : K → A) (xs : List K) (k : ℕ) (x : K) → k < length xs → x ≡ get_or xs k x → Placed (map see xs) k (see x)

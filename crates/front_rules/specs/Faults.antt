@@ -1,23 +1,19 @@
--- The faults of a front: pairs of a line and a reason. The least of them is told, by line, then by reason.
-use Rattle.std.specs.Prelude.{◌≡◌, ℕ, ◌<◌, ◌≤◌, ◌⊎◌, Bool, if◌then◌else◌, List, [], ◌∷◌, ◌++◌, map, Option, Some, None, All, Contains}
-use Rattle.cob_base.specs.declared.line.Line.{Line}
+-- The faults of a front, reason by reason.
+use Rattle.std.specs.Prelude.{List, ◌++◌}
 use Rattle.cob_base.specs.declared.divisions.Front.{Front}
-use Rattle.front_rules.specs.declared.fault.Fault.{Fault}
+use Rattle.name_rules.specs.declared.fault.Fault.{Fault}
 use Rattle.data_names.specs.Items.{DataItem}
-use Rattle.front_rules.specs.ScreenItems.{ScreenItem}
-use Rattle.front_rules.specs.UnknownNames.{unknown_names, ambiguous_names}
-use Rattle.front_rules.specs.DoubleNames.{double_names}
+use Rattle.entry_clauses.specs.ScreenItems.{ScreenItem}
+use Rattle.name_rules.specs.UnknownNames.{unknown_names, ambiguous_names}
+use Rattle.name_rules.specs.DoubleNames.{double_names}
 use Rattle.front_rules.specs.Pictures.{bad_pictures}
 use Rattle.front_rules.specs.Limits.{past_limits}
 use Rattle.front_rules.specs.Kinds.{wrong_kinds}
 use Rattle.front_rules.specs.KeyPlaces.{bad_key_places}
 use Rattle.front_rules.specs.Outside.{left_out}
-use Rattle.front_rules.specs.Placing.{off_screen}
-use Rattle.front_rules.specs.Subscripts.{miscounted_subscripts}
-
--- the fault of this reason in each of these lines
-abbrev pub faults_at : ℕ → List Line → List Fault
-faults_at reason lines = map (λ line. record { line = line; reason = reason }) lines
+use Rattle.screen_rules.specs.Placing.{off_screen}
+use Rattle.name_rules.specs.Subscripts.{miscounted_subscripts}
+use Rattle.name_rules.specs.Faults.{faults_at}
 
 -- all faults of a front
 abbrev pub front_faults : Front → List DataItem → List ScreenItem → List Fault
@@ -32,21 +28,3 @@ front_faults front items screens =
     ++ faults_at 10 (left_out front items screens)
     ++ faults_at 11 (off_screen screens)
     ++ faults_at 13 (miscounted_subscripts front items)
-
--- in an earlier line, or in the same for no greater reason
-abbrev pub IsNoLater : Fault → Fault → Type 0
-IsNoLater fault other = (fault.line.0 < other.line.0) ⊎ ((fault.line.0 ≡ other.line.0) × (fault.reason ≤ other.reason))
-
--- a fault of the list, and no other is before it
-pub record IsLeast (all : List Fault) (fault : Fault) : Type 0 where
-  pub among : Contains all fault
-  pub first : All (IsNoLater fault) all
-
--- None where there is no fault, else the least
-abbrev pub IsBest : List Fault → Option Fault → Type 0
-IsBest all None = all ≡ []
-IsBest all (Some fault) = IsLeast all fault
-
--- a fault that is there or not
-abbrev pub fault_where : Bool → ℕ → Line → List Fault
-fault_where holds reason line = if holds then record { line = line; reason = reason } ∷ [] else []

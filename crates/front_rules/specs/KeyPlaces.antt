@@ -1,5 +1,5 @@
 -- Reason 7: keys and where they lie.
-use Rattle.std.specs.Prelude.{ℕ, ◌==◌, ◌-◌, ◌^◌, nat_lt, Bool, false, not, ◌&&◌, ◌||◌, List, [], ◌∷◌, length, map, filter, count_by, position, Option, Some, None, is_none, if◌then◌else◌}
+use Rattle.std.specs.Prelude.{ℕ, ◌==◌, nat_lt, Bool, false, not, ◌&&◌, ◌||◌, List, [], ◌∷◌, length, map, filter, count_by, position, Option, Some, None, is_none, if◌then◌else◌}
 use Rattle.std.specs.List.{list_any, list_all, filter_map}
 use Rattle.cob_base.specs.declared.line.Line.{Line}
 use Rattle.cob_base.specs.declared.divisions.Front.{Front}
@@ -8,12 +8,11 @@ use Rattle.cob_base.specs.declared.file_entries.FileClause.{FileClause}
 use Rattle.data_layout.specs.Storage.{storage}
 use Rattle.data_layout.specs.Faults.{has_size}
 use Rattle.data_names.specs.Parts.{files, descriptions}
-use Rattle.front_rules.specs.Clauses.{record_key, alternates}
+use Rattle.entry_clauses.specs.Clauses.{record_key, alternates}
 use Rattle.data_names.specs.Items.{DataItem}
 use Rattle.data_names.specs.Spots.{Spot, is_table, is_in_record, rows_before, bytes_of}
 use Rattle.data_names.specs.References.{same_name, found}
-use Rattle.front_rules.specs.Mentions.{keys_of}
-use Rattle.front_rules.specs.declared.key_places.Span.{Span}
+use Rattle.name_rules.specs.Mentions.{keys_of}
 
 -- the number of a file's description, counted from 0: the first of its name
 abbrev pub description_of : Front → List ℕ → Option ℕ
@@ -42,18 +41,14 @@ is_no_key description (Some spot) = not (is_of_record description spot) || is_ta
 abbrev pub are_sized_under : List DataItem → Option ℕ → Bool
 are_sized_under items description = list_all (λ item. not (same_number description item.source.file) || has_size item.row) items
 
--- Where a key lies is how many bytes of the files stand before it, and how many it has. It is counted up to 2 ^ 64 - 2 bytes.
-abbrev pub is_counted : ℕ → Bool
-is_counted number = nat_lt number (2 ^ 64 - 1)
+-- a key that is judged for its place: an item of the file's record, without OCCURS in or above it
+abbrev pub placed_key : Option ℕ → Option (Spot DataItem) → Option (Spot DataItem)
+placed_key description None = None
+placed_key description (Some spot) = if is_of_record description spot && not (is_table spot) then Some spot else None
 
-abbrev pub same_span : Span → Span → Bool
-same_span span other = (span.offset == other.offset) && (span.size == other.size)
-
-abbrev pub span_of_key : Option ℕ → Option (Spot DataItem) → Option Span
-span_of_key description None = None
-span_of_key description (Some spot) =
-    if is_of_record description spot && not (is_table spot) && is_counted (storage (rows_before spot)) && is_counted (bytes_of spot)
-    then Some (record { offset = storage (rows_before spot); size = bytes_of spot }) else None
+-- Two items lie at one place where as many bytes stand before them and they have as many.
+abbrev pub same_place : Spot DataItem → Spot DataItem → Bool
+same_place spot other = (storage (rows_before spot) == storage (rows_before other)) && (bytes_of spot == bytes_of other)
 
 abbrev pub has_twins : {A : Type 0} → (A → A → Bool) → List A → Bool
 has_twins same [] = false
@@ -65,7 +60,7 @@ has_no_key items description file = list_any (λ key. is_no_key description (fou
 
 -- two keys of a file lie at one place
 abbrev pub are_at_one_place : List DataItem → Option ℕ → FileEntry → Bool
-are_at_one_place items description file = has_twins same_span (filter_map (λ key. span_of_key description (found items key)) (keys_of file))
+are_at_one_place items description file = has_twins same_place (filter_map (λ key. placed_key description (found items key)) (keys_of file))
 
 -- RECORD KEY is missing, there are more than three alternates, or more than one of them with duplicates
 abbrev pub has_bad_clauses : List FileClause → Bool

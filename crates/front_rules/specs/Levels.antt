@@ -9,7 +9,6 @@ use Rattle.data_layout.specs.Rows.{sections, strays, rank}
 use Rattle.data_layout.specs.Faults.{level_fits, is_missing}
 use Rattle.data_names.specs.Parts.{descriptions}
 use Rattle.data_names.specs.Items.{DataItem}
-use Rattle.front_rules.specs.ScreenItems.{ScreenItem}
 use Rattle.data_names.specs.Spots.{Spot, rows_before}
 
 -- A level that returns to no group or begins with neither 01 nor 77, level 77 on a group, OCCURS on level 01 or 77, PICTURE on a group,
@@ -19,10 +18,6 @@ has_bad_level spot =
     let row = spot.item.row in
     not (level_fits (rows_before spot) row) || (row.group && (row.level == 77)) || (is_some row.occurs && (rank row.level == 1))
     || (row.group && not (is_missing row.spelled)) || (not row.group && is_missing row.spelled)
-
--- on a screen level 77 never stands
-abbrev pub has_bad_screen_level : Spot ScreenItem → Bool
-has_bad_screen_level spot = not (level_fits (map (λ item. item.row) spot.before) spot.item.row) || (spot.item.row.level == 77)
 
 -- ---- under a file description stands one level-01 item with its members and level-88 entries
 

@@ -1,13 +1,3 @@
-pub mod Clauses
-pub mod ScreenItems
-pub mod SeenScreens
-pub mod Mentions
-pub mod SeenMentions
-pub mod NameKeys
-pub mod UnknownNames
-pub mod DoubleNames
-pub mod SeenNames
-pub mod SeenMembers
 pub mod Pictures
 pub mod Limits
 pub mod Levels
@@ -15,7 +5,5 @@ pub mod Kinds
 pub mod KeyPlaces
 pub mod Descriptions
 pub mod Outside
-pub mod Placing
-pub mod Subscripts
 pub mod Faults
-pub mod SeenPlaces
+pub mod SeenKeys

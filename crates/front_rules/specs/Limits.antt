@@ -1,25 +1,17 @@
 -- Reason 5: what is past a limit.
-use Rattle.std.specs.Prelude.{nat_lt, ◌==◌, Bool, true, false, not, ◌&&◌, ◌||◌, List, ◌++◌, map, filter, drop, Option, Some, None}
+use Rattle.std.specs.Prelude.{nat_lt, ◌==◌, Bool, false, not, ◌&&◌, ◌||◌, List, ◌++◌, map, filter, drop, Option, Some, None}
 use Rattle.std.specs.List.{list_any}
 use Rattle.cob_base.specs.declared.line.Line.{Line}
 use Rattle.cob_base.specs.declared.divisions.Front.{Front}
 use Rattle.cob_base.specs.declared.file_entries.FileEntry.{FileEntry}
-use Rattle.data_layout.specs.declared.row.Spelled.{Spelled}
-use Rattle.data_layout.specs.declared.row.Spelled.TheVariants as s
 use Rattle.data_layout.specs.Faults.{is_in_range, passes_storage, passes_record}
 use Rattle.data_names.specs.Parts.{files}
 use Rattle.data_names.specs.Items.{DataItem}
-use Rattle.front_rules.specs.ScreenItems.{ScreenItem}
+use Rattle.entry_clauses.specs.Spelled.{is_too_wide}
+use Rattle.entry_clauses.specs.ScreenItems.{ScreenItem}
 use Rattle.data_names.specs.Spots.{Spot, spots, rows_before, rows_after, is_sized, bytes_of}
 use Rattle.data_names.specs.References.{found}
-use Rattle.front_rules.specs.Mentions.{keys_of}
-
--- a picture past its limits
-abbrev pub is_too_wide : Spelled → Bool
-is_too_wide s.Missing = false
-is_too_wide s.Unreadable = false
-is_too_wide s.TooWide = true
-is_too_wide s.Fits = false
+use Rattle.name_rules.specs.Mentions.{keys_of}
 
 -- Past a limit are a too wide picture, an OCCURS number that is not 1 to 9,999, storage of more than 1,000,000 bytes with this item,
 -- and a record of more than 512 bytes.

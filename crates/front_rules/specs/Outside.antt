@@ -5,11 +5,11 @@ use Rattle.cob_base.specs.declared.line.Line.{Line}
 use Rattle.cob_base.specs.declared.divisions.Front.{Front}
 use Rattle.cob_base.specs.declared.file_entries.FileEntry.{FileEntry}
 use Rattle.data_names.specs.Parts.{files}
-use Rattle.front_rules.specs.Clauses.{is_of_file_kind, is_outside_of_items, is_of_screen_kind}
-use Rattle.front_rules.specs.declared.file_clauses.FileClauseKind.TheVariants as k
-use Rattle.front_rules.specs.declared.screen_clauses.ScreenClauseKind.TheVariants as n
+use Rattle.entry_clauses.specs.Clauses.{is_of_file_kind, is_outside_of_items, is_of_screen_kind}
+use Rattle.entry_clauses.specs.declared.file_clauses.FileClauseKind.TheVariants as k
+use Rattle.entry_clauses.specs.declared.screen_clauses.ScreenClauseKind.TheVariants as n
 use Rattle.data_names.specs.Items.{DataItem}
-use Rattle.front_rules.specs.ScreenItems.{ScreenItem}
+use Rattle.entry_clauses.specs.ScreenItems.{ScreenItem}
 use Rattle.data_names.specs.Spots.{Spot, spots, is_repeated}
 
 -- an outside clause, or no ORGANIZATION INDEXED

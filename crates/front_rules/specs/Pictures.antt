@@ -3,7 +3,7 @@ use Rattle.std.specs.Prelude.{◌||◌, List, ◌++◌, map, filter, Bool}
 use Rattle.cob_base.specs.declared.line.Line.{Line}
 use Rattle.data_layout.specs.Faults.{is_unreadable}
 use Rattle.data_names.specs.Items.{DataItem}
-use Rattle.front_rules.specs.ScreenItems.{ScreenItem}
+use Rattle.entry_clauses.specs.ScreenItems.{ScreenItem}
 
 abbrev pub has_bad_screen_picture : ScreenItem → Bool
 has_bad_screen_picture item = is_unreadable item.row.spelled || item.signed

@@ -6,26 +6,27 @@ ghost use Rattle.data_names.specs.Seen.{seen_item};
 ghost use Rattle.data_names.specs.Spots.{Spot, spots};
 ghost use Rattle.data_names.specs.References.{found};
 ghost use Rattle.data_names.specs.Table.{IsTable, items_of};
-ghost use Rattle.front_rules.specs.Clauses.{record_key, alternates};
-ghost use Rattle.front_rules.specs.Mentions.{keys_of};
+ghost use Rattle.entry_clauses.specs.Clauses.{record_key, alternates};
+ghost use Rattle.name_rules.specs.Mentions.{keys_of};
 ghost use Rattle.front_rules.specs.Descriptions.{AreDescriptions, IsDescriptionOf};
-ghost use Rattle.front_rules.specs.KeyPlaces.{same_number, is_of_record, is_signed_item, is_no_key, are_sized_under, span_of_key, same_span, has_twins, has_bad_clauses, has_no_key, are_at_one_place, description_of, has_bad_keys, bad_key_places};
-ghost use Rattle.front_rules.specs.Faults.{faults_at};
+ghost use Rattle.front_rules.specs.KeyPlaces.{same_number, is_of_record, is_signed_item, is_no_key, are_sized_under, placed_key, same_place, has_twins, has_bad_clauses, has_no_key, are_at_one_place, description_of, has_bad_keys, bad_key_places};
+ghost use Rattle.front_rules.specs.SeenKeys.{span_of_key, same_span};
+ghost use Rattle.name_rules.specs.Faults.{faults_at};
 
 use crate::descriptions::{Description, Descriptions};
-use crate::faults::Faults;
-use crate::file_clauses;
 use cob_base::{FileClause, FileEntry, Front, NoMemory, Reference};
 use data_names::{KnownItem, Table, files};
+use entry_clauses::file_clauses;
+use name_rules::Faults;
 use std::alloc::Global;
 
-/// Where a key lies.
+/// Where a key lies among the items with bytes. Bytes themselves have no bound, and are not counted.
 #[derive(Clone, Copy, Debug)]
 struct Span {
-    /// How many bytes stand before it.
-    offset: u64,
-    /// How many bytes it has.
-    size: u64,
+    /// How many elementary items with bytes stand before it.
+    before: usize,
+    /// How many it has.
+    inside: usize,
 }
 
 /// The keys of a file: its prime key, then the alternates.
@@ -129,21 +130,17 @@ fn has_no_key(
     Ok(false)
 }
 
-/// Where the item of this number lies, where it is one of the record without OCCURS whose place is counted.
+/// Where the item of this number lies, where it is one of the record without OCCURS.
 fn span_at(table: &Table, description: Option<usize>, at: usize) -> Option<Span>
     requires table { IsTable table.now }
     requires within { at < length table.now.items.now }
     ensures { (spot : Spot DataItem) → slice_get (spots (items_of table.now)) at ≡ Some spot → result ≡ span_of_key description (Some spot) }
 {
     let facts = table.facts_at(at);
-    if is_of_record(table, description, at)
-        && !facts.table
-        && facts.before < u64::MAX
-        && facts.bytes < u64::MAX
-    {
+    if is_of_record(table, description, at) && !facts.table {
         Some(Span {
-            offset: facts.before,
-            size: facts.bytes,
+            before: facts.with_bytes_before,
+            inside: facts.with_bytes,
         })
     } else {
         None
@@ -186,7 +183,7 @@ fn spans_of(
 fn same_span(span: &Span, other: &Span) -> bool
     ensures { result ≡ same_span span.now other.now }
 {
-    span.offset == other.offset && span.size == other.size
+    span.before == other.before && span.inside == other.inside
 }
 
 fn is_among(span: &Span, others: &[Span]) -> bool
@@ -216,7 +213,7 @@ fn are_at_one_place(
     keys: &[&Reference],
 ) -> Result<bool, NoMemory>
     requires { IsTable table.now }
-    ensures { IfOk result (λ same. same ≡ has_twins same_span (filter_map (λ key. span_of_key description (found (items_of table.now) key)) (map (λ key. key.now) keys.now))) }
+    ensures { IfOk result (λ same. same ≡ has_twins same_place (filter_map (λ key. placed_key description (found (items_of table.now) key)) (map (λ key. key.now) keys.now))) }
 {
     let spans = spans_of(alloc, table, description, keys)?;
     Ok(has_twins(spans.as_slice()))

@@ -8,25 +8,24 @@ ghost use Rattle.data_names.specs.Parts.{files, crt_status};
 ghost use Rattle.data_names.specs.Spots.{Spot, spots, picture_of_item};
 ghost use Rattle.data_names.specs.References.{found};
 ghost use Rattle.data_names.specs.Table.{IsTable, items_of};
-ghost use Rattle.front_rules.specs.Mentions.{reference_of_crt, subscript_items};
-ghost use Rattle.front_rules.specs.SeenMentions.{IsFoundMention, AreMentions, seen_mention};
-ghost use Rattle.front_rules.specs.SeenScreens.{seen_screen, ArePlacedAfter};
-ghost use Rattle.front_rules.specs.Clauses.{has_leading_sign};
+ghost use Rattle.name_rules.specs.Mentions.{reference_of_crt, subscript_items};
+ghost use Rattle.name_rules.specs.SeenMentions.{IsFoundMention, AreMentions, seen_mention};
+ghost use Rattle.entry_clauses.specs.SeenScreens.{seen_screen, ArePlacedAfter};
+ghost use Rattle.entry_clauses.specs.Clauses.{has_leading_sign};
 ghost use Rattle.cob_value.specs.Figures.{is_numeric};
-ghost use Rattle.front_rules.specs.Kinds.{is_text_kind, is_text, is_no_status, is_bad_status, is_file_of_wrong_kind, is_four_digits, is_no_crt_status, is_whole, is_integer, is_no_integer, is_item_of_wrong_kind, is_screen_of_wrong_kind, wrong_in_environment, wrong_in_data, wrong_kinds};
-ghost use Rattle.front_rules.specs.Faults.{faults_at};
+ghost use Rattle.front_rules.specs.Kinds.{is_text_kind, is_text, is_no_status, is_bad_status, is_file_of_wrong_kind, is_four_digits, is_no_crt_status, is_whole, is_integer, is_no_integer, is_item_of_wrong_kind, wrong_in_environment, wrong_in_data, wrong_kinds};
+ghost use Rattle.screen_rules.specs.ScreenKinds.{is_screen_of_wrong_kind};
+ghost use Rattle.name_rules.specs.Faults.{faults_at};
 
-use crate::faults::Faults;
 use crate::levels::{has_bad_level, note_misplaced};
-use crate::mentions::{Mention, Mentions};
-use crate::screen_kinds::is_screen_of_wrong_kind;
-use crate::screens::KnownScreen;
 use crate::values::has_bad_value;
-use crate::{file_clauses, item_clauses};
 use cob_base::{CrtStatus, FileEntry, Front, NoMemory, Reference};
 use data_layout::is_sized;
 use data_names::{Facts, Found, KnownItem, Table, crt_status, files};
+use entry_clauses::{KnownScreen, file_clauses, item_clauses};
+use name_rules::{Faults, Mention, Mentions};
 use picture_rule::{Picture, PictureKind};
+use screen_rules::is_screen_of_wrong_kind;
 use std::alloc::Global;
 
 fn is_text_kind(kind: Option<PictureKind>) -> bool
@@ -151,7 +150,7 @@ fn is_integer(item: KnownItem) -> bool
 }
 
 /// Whether an item is no number without decimals. Whether one past its limits has decimals is not asked.
-fn is_no_integer(item: KnownItem) -> bool
+pub fn is_no_integer(item: KnownItem) -> bool
     ensures { (spot : Spot DataItem) → spot.item ≡ seen_item item.entry → result ≡ is_no_integer (Some spot) }
 {
     is_sized(&item.row) && !is_integer(item)
@@ -227,7 +226,7 @@ fn note_crt_status(
 }
 
 /// Notes each subscript whose item is no integer.
-fn note_subscripts(
+pub fn note_subscripts(
     faults: &mut Faults,
     table: &Table,
     subscripts: &[Mention],

@@ -6,13 +6,13 @@ ghost use Rattle.data_names.specs.Items.{DataItem};
 ghost use Rattle.data_names.specs.Seen.{seen_item};
 ghost use Rattle.data_names.specs.Facts.{IsFacts};
 ghost use Rattle.front_rules.specs.Levels.{has_bad_level, line_of_entry, is_record_entry, is_beside_record, misplaced, misplaced_entries};
-ghost use Rattle.front_rules.specs.Faults.{faults_at};
+ghost use Rattle.name_rules.specs.Faults.{faults_at};
 
-use crate::faults::Faults;
-use crate::spelled::is_missing;
 use cob_base::{DataEntry, FileDescription, Front, Line, NoMemory};
 use data_layout::rank_of;
 use data_names::{Facts, KnownItem, descriptions, working_storage};
+use entry_clauses::is_missing;
+use name_rules::Faults;
 
 /// Whether a level returns to no group or begins with neither 01 nor 77, 77 or PICTURE stands on a group, OCCURS on 01 or 77, or an
 /// elementary item has no PICTURE.

@@ -6,19 +6,18 @@ ghost use Rattle.data_names.specs.Spots.{Spot, spots, rows_before, rows_after};
 ghost use Rattle.data_names.specs.Seen.{seen_item};
 ghost use Rattle.data_names.specs.Facts.{IsFacts};
 ghost use Rattle.data_names.specs.Table.{IsTable, items_of};
-ghost use Rattle.front_rules.specs.SeenScreens.{seen_screen};
-ghost use Rattle.front_rules.specs.Limits.{is_too_wide, is_item_past_limit, is_key_past_limit, has_key_past_limit};
-ghost use Rattle.front_rules.specs.Clauses.{record_key, alternates};
+ghost use Rattle.entry_clauses.specs.SeenScreens.{seen_screen};
+ghost use Rattle.entry_clauses.specs.Spelled.{is_too_wide};
+ghost use Rattle.front_rules.specs.Limits.{is_item_past_limit, is_key_past_limit, has_key_past_limit};
+ghost use Rattle.entry_clauses.specs.Clauses.{record_key, alternates};
 ghost use Rattle.data_names.specs.References.{found};
-ghost use Rattle.front_rules.specs.Faults.{faults_at};
+ghost use Rattle.name_rules.specs.Faults.{faults_at};
 
-use crate::faults::Faults;
-use crate::file_clauses;
-use crate::screens::KnownScreen;
-use crate::spelled::is_too_wide;
 use cob_base::{FileClause, FileEntry, NoMemory, Reference};
 use data_layout::is_allowed;
 use data_names::{Facts, KnownItem, Table};
+use entry_clauses::{KnownScreen, file_clauses, is_too_wide};
+use name_rules::Faults;
 use std::alloc::Global;
 
 /// How many bytes storage may have.

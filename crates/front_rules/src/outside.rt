@@ -4,17 +4,16 @@ ghost use Rattle.data_names.specs.Table.{IsTable, items_of};
 ghost use Rattle.data_names.specs.Items.{DataItem};
 ghost use Rattle.data_names.specs.Seen.{seen_item};
 ghost use Rattle.data_names.specs.Facts.{IsFacts};
-ghost use Rattle.front_rules.specs.SeenScreens.{seen_screen};
+ghost use Rattle.entry_clauses.specs.SeenScreens.{seen_screen};
 ghost use Rattle.front_rules.specs.Outside.{is_file_outside, is_item_outside, is_screen_outside};
-ghost use Rattle.front_rules.specs.Faults.{faults_at};
+ghost use Rattle.name_rules.specs.Faults.{faults_at};
 
-use crate::faults::Faults;
-use crate::file_clauses::FileClauseKind;
-use crate::screen_clauses::ScreenClauseKind;
-use crate::screens::KnownScreen;
-use crate::{file_clauses, item_clauses, screen_clauses};
 use cob_base::{FileEntry, NoMemory};
 use data_names::{Facts, KnownItem, Table};
+use entry_clauses::file_clauses::FileClauseKind;
+use entry_clauses::screen_clauses::ScreenClauseKind;
+use entry_clauses::{KnownScreen, file_clauses, item_clauses, screen_clauses};
+use name_rules::Faults;
 
 fn is_file_outside(file: &FileEntry) -> bool
     ensures { result ≡ is_file_outside file.now }

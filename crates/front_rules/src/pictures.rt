@@ -2,14 +2,13 @@ ghost use Rattle.std.specs.Prelude.{◌≡◌, ◌++◌, map, filter, OnOk};
 ghost use Rattle.data_layout.specs.Faults.{is_unreadable};
 ghost use Rattle.data_names.specs.Seen.{seen_item};
 ghost use Rattle.front_rules.specs.Pictures.{has_bad_screen_picture};
-ghost use Rattle.front_rules.specs.Faults.{faults_at};
-ghost use Rattle.front_rules.specs.SeenScreens.{seen_screen};
+ghost use Rattle.name_rules.specs.Faults.{faults_at};
+ghost use Rattle.entry_clauses.specs.SeenScreens.{seen_screen};
 
-use crate::faults::Faults;
-use crate::screens::KnownScreen;
-use crate::spelled::is_unreadable;
 use cob_base::NoMemory;
 use data_names::KnownItem;
+use entry_clauses::{KnownScreen, is_unreadable};
+use name_rules::Faults;
 
 /// Notes each text of an item that is no picture.
 pub fn note_item_pictures(faults: &mut Faults, items: &[KnownItem]) -> Result<(), NoMemory>

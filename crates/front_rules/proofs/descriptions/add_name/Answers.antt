@@ -5,7 +5,7 @@ use Rattle.data_names.specs.Clauses.{or_next}
 use Rattle.data_names.specs.Names.{in_small}
 use Rattle.front_rules.specs.Descriptions.{number_under}
 use Rattle.front_rules.proofs.DescriptionsOf.{none_next}
-use Rattle.front_rules.proofs.TextKeys.{updates_by, bytes_eq-flip, bytes_eq-same}
+use Rattle.name_rules.proofs.TextKeys.{updates_by, bytes_eq-flip, bytes_eq-same}
 use Rattle.front_rules.proofs.descriptions.add_name.Goals as goal
 
 -- a key that was not there is put in

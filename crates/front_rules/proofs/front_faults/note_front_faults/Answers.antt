@@ -1,5 +1,5 @@
 use Rattle.std.proofs.Common.{◌≡◌, ◌∙◌, ap, sym, List, ◌++◌, append_assoc}
-use Rattle.front_rules.specs.declared.fault.Fault.{Fault}
+use Rattle.name_rules.specs.declared.fault.Fault.{Fault}
 use Rattle.front_rules.proofs.front_faults.note_front_faults.Goals as goal
 
 with_one : (old mid new a b : List Fault) → mid ≡ old ++ a → new ≡ mid ++ b → new ≡ old ++ (a ++ b)

@@ -1,6 +1,6 @@
 -- Those so far and those to come.
 use Rattle.std.proofs.Common.{◌≡◌, ◌+◌, ◌≤◌, length, drop}
-use Rattle.front_rules.specs.Clauses.{alternates}
+use Rattle.entry_clauses.specs.Clauses.{alternates}
 use Rattle.front_rules.proofs.key_places.count_of_alternates.Given as goal
 
 abbrev pub invariant-loop-clause : goal.invariant-loop-clause

@@ -1,7 +1,7 @@
 -- Those so far and those to come.
 use Rattle.std.proofs.Common.{◌≡◌, ◌+◌, ◌≤◌, drop}
 use Rattle.std.specs.Prelude.{count_by}
-use Rattle.front_rules.specs.Clauses.{alternates}
+use Rattle.entry_clauses.specs.Clauses.{alternates}
 use Rattle.front_rules.proofs.key_places.count_with_duplicates.Given as goal
 
 abbrev pub invariant-loop-clause : goal.invariant-loop-clause

@@ -1,6 +1,7 @@
 -- Those still to come decide.
 use Rattle.std.proofs.Common.{◌≡◌, length}
-use Rattle.front_rules.specs.KeyPlaces.{same_span, has_twins}
+use Rattle.front_rules.specs.KeyPlaces.{has_twins}
+use Rattle.front_rules.specs.SeenKeys.{same_span}
 use Rattle.front_rules.proofs.key_places.has_twins.Given as goal
 
 abbrev pub invariant-loop-rest : goal.invariant-loop-rest

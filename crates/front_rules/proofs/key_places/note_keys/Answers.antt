@@ -3,8 +3,8 @@ use Rattle.std.proofs.lemmas.List.{take_more}
 use Rattle.cob_base.specs.declared.file_entries.FileEntry.{FileEntry}
 use Rattle.data_names.specs.Table.{items_of}
 use Rattle.front_rules.specs.KeyPlaces.{has_bad_keys}
-use Rattle.front_rules.specs.Faults.{fault_where}
-use Rattle.front_rules.proofs.SpotsOf.{noted_one}
+use Rattle.name_rules.specs.Faults.{fault_where}
+use Rattle.name_rules.proofs.SpotsOf.{noted_one}
 use Rattle.front_rules.proofs.key_places.note_keys.Goals as goal
 
 pub loop-file-preserved : goal.loop-file-preserved

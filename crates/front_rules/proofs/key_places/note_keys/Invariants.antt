@@ -5,7 +5,7 @@ use Rattle.cob_base.specs.declared.divisions.Front.{Front}
 use Rattle.data_names.specs.Table.{items_of}
 use Rattle.front_rules.specs.Descriptions.{AreDescriptions}
 use Rattle.front_rules.specs.KeyPlaces.{has_bad_keys}
-use Rattle.front_rules.specs.Faults.{faults_at}
+use Rattle.name_rules.specs.Faults.{faults_at}
 use Rattle.front_rules.proofs.key_places.note_keys.Given as goal
 
 abbrev pub invariant-loop-file : goal.invariant-loop-file

@@ -1,7 +1,7 @@
 -- The keys so far and those to come.
 use Rattle.std.proofs.Common.{◌≡◌, ◌++◌, drop, map, Bor}
 use Rattle.cob_base.specs.declared.operands.Reference.{Reference}
-use Rattle.front_rules.specs.Clauses.{alternates}
+use Rattle.entry_clauses.specs.Clauses.{alternates}
 use Rattle.front_rules.proofs.key_places.push_alternates.Given as goal
 
 abbrev pub invariant-loop-clause : goal.invariant-loop-clause

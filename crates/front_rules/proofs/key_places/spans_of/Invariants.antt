@@ -4,7 +4,7 @@ use Rattle.std.specs.List.{filter_map}
 use Rattle.cob_base.specs.declared.operands.Reference.{Reference}
 use Rattle.data_names.specs.References.{found}
 use Rattle.data_names.specs.Table.{items_of}
-use Rattle.front_rules.specs.KeyPlaces.{span_of_key}
+use Rattle.front_rules.specs.SeenKeys.{span_of_key}
 use Rattle.front_rules.proofs.key_places.spans_of.Given as goal
 
 abbrev pub invariant-loop-key : goal.invariant-loop-key

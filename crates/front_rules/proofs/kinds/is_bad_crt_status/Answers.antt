@@ -1,4 +1,4 @@
-use Rattle.front_rules.proofs.WithinTable.{within_table}
+use Rattle.name_rules.proofs.WithinTable.{within_table}
 use Rattle.front_rules.proofs.kinds.is_bad_crt_status.Goals as goal
 
 pub item_at-requires : goal.item_at-requires

@@ -1,6 +1,6 @@
 use Rattle.std.proofs.Common.{◌≡◌, ◌∙◌, refl, sym, ap, Bool, true, false, ◌||◌}
 use Rattle.data_names.specs.Items.{DataItem}
-use Rattle.front_rules.specs.Clauses.{has_leading_sign}
+use Rattle.entry_clauses.specs.Clauses.{has_leading_sign}
 use Rattle.front_rules.specs.Kinds.{has_bad_value}
 use Rattle.front_rules.specs.Levels.{has_bad_level}
 use Rattle.front_rules.proofs.kinds.is_item_of_wrong_kind.Goals as goal

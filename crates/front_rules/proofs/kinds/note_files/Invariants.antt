@@ -3,7 +3,7 @@ use Rattle.std.proofs.Common.{◌≡◌, ◌++◌, take, map}
 use Rattle.std.specs.Prelude.{filter}
 use Rattle.data_names.specs.Table.{items_of}
 use Rattle.front_rules.specs.Kinds.{is_file_of_wrong_kind}
-use Rattle.front_rules.specs.Faults.{faults_at}
+use Rattle.name_rules.specs.Faults.{faults_at}
 use Rattle.front_rules.proofs.kinds.note_files.Given as goal
 
 abbrev pub invariant-loop-file : goal.invariant-loop-file

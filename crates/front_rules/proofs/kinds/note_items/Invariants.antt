@@ -4,7 +4,7 @@ use Rattle.std.specs.Prelude.{filter}
 use Rattle.data_names.specs.Spots.{spots}
 use Rattle.data_names.specs.Table.{items_of}
 use Rattle.front_rules.specs.Kinds.{is_item_of_wrong_kind}
-use Rattle.front_rules.specs.Faults.{faults_at}
+use Rattle.name_rules.specs.Faults.{faults_at}
 use Rattle.front_rules.proofs.kinds.note_items.Given as goal
 
 abbrev pub invariant-loop-at : goal.invariant-loop-at

@@ -4,11 +4,11 @@ use Rattle.std.specs.List.{take-map}
 use Rattle.data_layout.specs.Faults.{level_fits}
 use Rattle.data_names.specs.Spots.{Spot, spot_of}
 use Rattle.data_names.specs.Table.{items_of}
-use Rattle.front_rules.specs.ScreenItems.{ScreenItem}
-use Rattle.front_rules.specs.SeenScreens.{seen_screen}
-use Rattle.front_rules.specs.Kinds.{is_screen_of_wrong_kind}
-use Rattle.front_rules.specs.Faults.{faults_at}
-use Rattle.front_rules.proofs.PlacedScreens.{placed_at}
+use Rattle.entry_clauses.specs.ScreenItems.{ScreenItem}
+use Rattle.entry_clauses.specs.SeenScreens.{seen_screen}
+use Rattle.screen_rules.specs.ScreenKinds.{is_screen_of_wrong_kind}
+use Rattle.name_rules.specs.Faults.{faults_at}
+use Rattle.entry_clauses.proofs.PlacedScreens.{placed_at}
 use Rattle.front_rules.proofs.SpotsSeen.{placed_seen, all_seen, noted_seen}
 use Rattle.front_rules.proofs.kinds.note_screens.Goals as goal
 

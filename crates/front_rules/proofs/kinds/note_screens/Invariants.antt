@@ -3,9 +3,9 @@ use Rattle.std.proofs.Common.{◌≡◌, ◌++◌, take, map}
 use Rattle.std.specs.Prelude.{filter}
 use Rattle.data_names.specs.Spots.{spots}
 use Rattle.data_names.specs.Table.{items_of}
-use Rattle.front_rules.specs.SeenScreens.{seen_screen}
-use Rattle.front_rules.specs.Kinds.{is_screen_of_wrong_kind}
-use Rattle.front_rules.specs.Faults.{faults_at}
+use Rattle.entry_clauses.specs.SeenScreens.{seen_screen}
+use Rattle.screen_rules.specs.ScreenKinds.{is_screen_of_wrong_kind}
+use Rattle.name_rules.specs.Faults.{faults_at}
 use Rattle.front_rules.proofs.kinds.note_screens.Given as goal
 
 abbrev pub invariant-loop-item : goal.invariant-loop-item

@@ -3,9 +3,9 @@ use Rattle.std.proofs.Common.{◌≡◌, ◌++◌, take, map}
 use Rattle.std.specs.Prelude.{filter}
 use Rattle.data_names.specs.References.{found}
 use Rattle.data_names.specs.Table.{items_of}
-use Rattle.front_rules.specs.SeenMentions.{seen_mention}
+use Rattle.name_rules.specs.SeenMentions.{seen_mention}
 use Rattle.front_rules.specs.Kinds.{is_no_integer}
-use Rattle.front_rules.specs.Faults.{faults_at}
+use Rattle.name_rules.specs.Faults.{faults_at}
 use Rattle.front_rules.proofs.kinds.note_subscripts.Given as goal
 
 abbrev pub invariant-loop-mention : goal.invariant-loop-mention

@@ -5,8 +5,9 @@ use Rattle.cob_base.specs.declared.divisions.FileDescription.{FileDescription}
 use Rattle.data_layout.specs.Rows.{leading_conditions, strays, sections}
 use Rattle.data_names.specs.Parts.{descriptions, working_storage}
 use Rattle.front_rules.specs.Levels.{misplaced}
-use Rattle.front_rules.specs.Faults.{faults_at}
-use Rattle.front_rules.proofs.StraysOf.{strays-is, noted_twice}
+use Rattle.name_rules.specs.Faults.{faults_at}
+use Rattle.front_rules.proofs.StraysOf.{strays-is}
+use Rattle.name_rules.proofs.Noted.{noted_twice}
 use Rattle.front_rules.proofs.levels.note_misplaced.Goals as goal
 
 pub returns : goal.returns

@@ -1,7 +1,7 @@
 -- What was found so far.
 use Rattle.std.proofs.Common.{◌≡◌, ◌++◌, drop}
 use Rattle.data_layout.specs.Rows.{leading_conditions}
-use Rattle.front_rules.specs.Faults.{faults_at}
+use Rattle.name_rules.specs.Faults.{faults_at}
 use Rattle.front_rules.proofs.levels.note_strays.Given as goal
 
 abbrev pub invariant-loop-entry : goal.invariant-loop-entry

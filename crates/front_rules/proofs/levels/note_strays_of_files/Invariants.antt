@@ -2,7 +2,7 @@
 use Rattle.std.proofs.Common.{◌≡◌, ◌++◌, take}
 use Rattle.std.specs.List.{flat_map}
 use Rattle.data_layout.specs.Rows.{leading_conditions}
-use Rattle.front_rules.specs.Faults.{faults_at}
+use Rattle.name_rules.specs.Faults.{faults_at}
 use Rattle.front_rules.proofs.levels.note_strays_of_files.Given as goal
 
 abbrev pub invariant-loop-file : goal.invariant-loop-file

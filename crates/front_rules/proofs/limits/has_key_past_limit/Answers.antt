@@ -5,9 +5,9 @@ use Rattle.std.specs.List.{list_any}
 use Rattle.cob_base.specs.declared.operands.Reference.{Reference}
 use Rattle.data_names.specs.References.{found}
 use Rattle.data_names.specs.Table.{items_of}
-use Rattle.front_rules.specs.Clauses.{Alternate, record_key, alternates}
+use Rattle.entry_clauses.specs.Clauses.{Alternate, record_key, alternates}
 use Rattle.front_rules.specs.Limits.{is_key_past_limit}
-use Rattle.front_rules.proofs.SpotsOf.{any_parts}
+use Rattle.name_rules.proofs.SpotsOf.{any_parts}
 use Rattle.front_rules.proofs.limits.has_key_past_limit.Goals as goal
 
 pub returns : goal.returns

@@ -3,7 +3,7 @@ use Rattle.std.proofs.Common.{◌≡◌, drop}
 use Rattle.std.specs.List.{list_any}
 use Rattle.data_names.specs.References.{found}
 use Rattle.data_names.specs.Table.{items_of}
-use Rattle.front_rules.specs.Clauses.{alternates}
+use Rattle.entry_clauses.specs.Clauses.{alternates}
 use Rattle.front_rules.specs.Limits.{is_key_past_limit}
 use Rattle.front_rules.proofs.limits.is_alternate_past_limit.Given as goal
 

@@ -1,6 +1,6 @@
 -- What was found so far.
 use Rattle.std.proofs.Common.{◌≡◌, ◌++◌, take, map}
-use Rattle.front_rules.specs.Faults.{faults_at}
+use Rattle.name_rules.specs.Faults.{faults_at}
 use Rattle.front_rules.proofs.limits.note_all.Given as goal
 
 abbrev pub invariant-loop-file : goal.invariant-loop-file

@@ -4,7 +4,7 @@ use Rattle.std.proofs.lemmas.Bool.Decides.{nat_tests}
 use Rattle.std.proofs.lemmas.Slice.{between_to_end}
 use Rattle.std.proofs.lemmas.List.{drop_all}
 use Rattle.cob_base.specs.declared.file_entries.FileEntry.{FileEntry}
-use Rattle.front_rules.specs.Faults.{faults_at}
+use Rattle.name_rules.specs.Faults.{faults_at}
 use Rattle.front_rules.proofs.limits.note_files_past_limit.Goals as goal
 
 either_way : (n m : ℕ) (b : Bool) → nat_le n m ≡ b → (n ≤ m) ⊎ (m ≤ n)

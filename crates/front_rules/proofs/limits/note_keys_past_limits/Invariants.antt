@@ -3,7 +3,7 @@ use Rattle.std.proofs.Common.{◌≡◌, ◌++◌, take, map}
 use Rattle.std.specs.Prelude.{filter}
 use Rattle.data_names.specs.Table.{items_of}
 use Rattle.front_rules.specs.Limits.{has_key_past_limit}
-use Rattle.front_rules.specs.Faults.{faults_at}
+use Rattle.name_rules.specs.Faults.{faults_at}
 use Rattle.front_rules.proofs.limits.note_keys_past_limits.Given as goal
 
 abbrev pub invariant-loop-file : goal.invariant-loop-file

@@ -1,9 +1,9 @@
 -- The faults of those so far.
 use Rattle.std.proofs.Common.{◌≡◌, ◌++◌, take, map}
 use Rattle.std.specs.Prelude.{filter}
-use Rattle.front_rules.specs.Limits.{is_too_wide}
-use Rattle.front_rules.specs.SeenScreens.{seen_screen}
-use Rattle.front_rules.specs.Faults.{faults_at}
+use Rattle.entry_clauses.specs.Spelled.{is_too_wide}
+use Rattle.entry_clauses.specs.SeenScreens.{seen_screen}
+use Rattle.name_rules.specs.Faults.{faults_at}
 use Rattle.front_rules.proofs.limits.note_screens_past_limits.Given as goal
 
 abbrev pub invariant-loop-item : goal.invariant-loop-item

@@ -2,7 +2,7 @@
 use Rattle.std.proofs.Common.{◌≡◌, ◌++◌, take, map}
 use Rattle.std.specs.Prelude.{filter}
 use Rattle.front_rules.specs.Outside.{is_file_outside}
-use Rattle.front_rules.specs.Faults.{faults_at}
+use Rattle.name_rules.specs.Faults.{faults_at}
 use Rattle.front_rules.proofs.outside.note_files_left_out.Given as goal
 
 abbrev pub invariant-loop-file : goal.invariant-loop-file

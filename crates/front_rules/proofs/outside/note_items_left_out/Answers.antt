@@ -4,8 +4,8 @@ use Rattle.data_names.specs.Items.{DataItem}
 use Rattle.data_names.specs.Seen.{seen_item}
 use Rattle.data_names.specs.Spots.{Spot, spot_of}
 use Rattle.front_rules.specs.Outside.{is_item_outside}
-use Rattle.front_rules.specs.Faults.{faults_at}
-use Rattle.front_rules.proofs.SpotsOf.{placed_item, noted_item, all_spots}
+use Rattle.name_rules.specs.Faults.{faults_at}
+use Rattle.name_rules.proofs.SpotsOf.{placed_item, noted_item, all_spots}
 use Rattle.front_rules.proofs.outside.note_items_left_out.Goals as goal
 
 pub loop-at-preserved : goal.loop-at-preserved

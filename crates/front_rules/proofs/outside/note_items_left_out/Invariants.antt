@@ -4,7 +4,7 @@ use Rattle.std.specs.Prelude.{filter}
 use Rattle.data_names.specs.Spots.{spots}
 use Rattle.data_names.specs.Table.{items_of}
 use Rattle.front_rules.specs.Outside.{is_item_outside}
-use Rattle.front_rules.specs.Faults.{faults_at}
+use Rattle.name_rules.specs.Faults.{faults_at}
 use Rattle.front_rules.proofs.outside.note_items_left_out.Given as goal
 
 abbrev pub invariant-loop-at : goal.invariant-loop-at

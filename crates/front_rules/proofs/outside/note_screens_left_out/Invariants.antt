@@ -1,9 +1,9 @@
 -- The faults of those so far.
 use Rattle.std.proofs.Common.{◌≡◌, ◌++◌, take, map}
 use Rattle.std.specs.Prelude.{filter}
-use Rattle.front_rules.specs.SeenScreens.{seen_screen}
+use Rattle.entry_clauses.specs.SeenScreens.{seen_screen}
 use Rattle.front_rules.specs.Outside.{is_screen_outside}
-use Rattle.front_rules.specs.Faults.{faults_at}
+use Rattle.name_rules.specs.Faults.{faults_at}
 use Rattle.front_rules.proofs.outside.note_screens_left_out.Given as goal
 
 abbrev pub invariant-loop-item : goal.invariant-loop-item

@@ -3,7 +3,7 @@ use Rattle.std.proofs.Common.{◌≡◌, ◌++◌, take, map}
 use Rattle.std.specs.Prelude.{filter}
 use Rattle.data_layout.specs.Faults.{is_unreadable}
 use Rattle.data_names.specs.Seen.{seen_item}
-use Rattle.front_rules.specs.Faults.{faults_at}
+use Rattle.name_rules.specs.Faults.{faults_at}
 use Rattle.front_rules.proofs.pictures.note_item_pictures.Given as goal
 
 abbrev pub invariant-loop-item : goal.invariant-loop-item

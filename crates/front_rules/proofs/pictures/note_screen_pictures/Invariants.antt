@@ -2,8 +2,8 @@
 use Rattle.std.proofs.Common.{◌≡◌, ◌++◌, take, map}
 use Rattle.std.specs.Prelude.{filter}
 use Rattle.front_rules.specs.Pictures.{has_bad_screen_picture}
-use Rattle.front_rules.specs.SeenScreens.{seen_screen}
-use Rattle.front_rules.specs.Faults.{faults_at}
+use Rattle.entry_clauses.specs.SeenScreens.{seen_screen}
+use Rattle.name_rules.specs.Faults.{faults_at}
 use Rattle.front_rules.proofs.pictures.note_screen_pictures.Given as goal
 
 abbrev pub invariant-loop-item : goal.invariant-loop-item

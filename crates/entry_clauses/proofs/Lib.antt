@@ -1,0 +1,3 @@
+pub mod ScreensOf
+pub mod PlacedScreens
+pub mod SameScreens

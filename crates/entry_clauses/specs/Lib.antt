@@ -1,0 +1,4 @@
+pub mod Clauses
+pub mod ScreenItems
+pub mod SeenScreens
+pub mod Spelled

@@ -1,9 +1,0 @@
--- The names so far.
-use Rattle.std.proofs.Common.{◌≡◌, ◌++◌, take, map}
-use Rattle.std.specs.List.{flat_map}
-use Rattle.front_rules.specs.DoubleNames.{declared_file}
-use Rattle.front_rules.specs.SeenNames.{seen_declared}
-use Rattle.front_rules.proofs.declared.add_descriptions.Given as goal
-
-abbrev pub invariant-loop-file : goal.invariant-loop-file
-invariant-loop-file l = map seen_declared l.names.items ≡ map seen_declared l.initial.names.items ++ flat_map declared_file (take l.file-index l.files)

@@ -1,7 +1,0 @@
--- The names so far.
-use Rattle.std.proofs.Common.{◌≡◌, ◌++◌, take, map}
-use Rattle.front_rules.specs.SeenNames.{seen_declared, declared_control}
-use Rattle.front_rules.proofs.declared.add_files.Given as goal
-
-abbrev pub invariant-loop-file : goal.invariant-loop-file
-invariant-loop-file l = map seen_declared l.names.items ≡ map seen_declared l.initial.names.items ++ map declared_control (take l.file-index l.files)

@@ -1,7 +1,0 @@
--- The clauses still to come give what all of them give.
-use Rattle.std.proofs.Common.{◌≡◌, drop}
-use Rattle.front_rules.specs.Clauses.{record_key}
-use Rattle.front_rules.proofs.file_clauses.record_key.Given as goal
-
-abbrev pub invariant-loop-clause : goal.invariant-loop-clause
-invariant-loop-clause l = record_key (drop l.clause-index l.clauses) ≡ record_key l.clauses

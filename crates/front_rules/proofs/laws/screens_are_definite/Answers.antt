@@ -1,5 +1,0 @@
-use Rattle.front_rules.proofs.SameScreens.{screens_once}
-use Rattle.front_rules.proofs.laws.screens_are_definite.Goals as goal
-
-pub returns : goal.returns
-returns c front screens others one two = screens_once front screens others one two

@@ -1,7 +1,0 @@
--- The names so far.
-use Rattle.std.proofs.Common.{take, map}
-use Rattle.front_rules.specs.NameKeys.{AreKeys}
-use Rattle.front_rules.proofs.unknown_names.names_of_files.Given as goal
-
-abbrev pub invariant-loop-file : goal.invariant-loop-file
-invariant-loop-file l = AreKeys (map (λ file. file.name) (take l.file-index l.files)) l.names

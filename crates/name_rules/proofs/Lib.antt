@@ -1,0 +1,11 @@
+pub mod SpotsOf
+pub mod WithinTable
+pub mod Noted
+pub mod TextKeys
+pub mod KeysOf
+pub mod PairsOf
+pub mod MentionsOf
+pub mod Named
+pub mod Later
+pub mod Clashes
+pub mod Twins

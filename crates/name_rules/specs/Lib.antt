@@ -1,0 +1,9 @@
+pub mod Faults
+pub mod Mentions
+pub mod SeenMentions
+pub mod NameKeys
+pub mod UnknownNames
+pub mod DoubleNames
+pub mod SeenNames
+pub mod SeenMembers
+pub mod Subscripts

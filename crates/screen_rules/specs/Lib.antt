@@ -1,0 +1,3 @@
+pub mod ScreenKinds
+pub mod Placing
+pub mod SeenPlaces
