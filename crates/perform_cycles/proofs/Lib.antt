@@ -1,0 +1,4 @@
+pub mod Shown
+pub mod Halved
+pub mod Marked
+pub mod Spreading

@@ -1,0 +1,4 @@
+pub mod Cycles
+pub mod Finding
+pub mod Lowest
+pub mod Plain

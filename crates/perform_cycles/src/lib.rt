@@ -1,0 +1,17 @@
+//! Which paragraphs of a program lead back to themselves through the ranges that PERFORM statements run.
+#![tactic(auto)]
+
+mod arrows;
+mod cycles;
+mod finding;
+mod lowest;
+mod plain;
+mod search;
+mod stabbing;
+mod unseen;
+
+pub use arrows::{Arrow, are_within};
+pub use cycles::on_cycles;
+
+#[cfg(test)]
+mod tests;
