@@ -1,0 +1,11 @@
+pub mod TextKeys
+pub mod FirstOf
+pub mod FirstsOf
+pub mod KnownConditions
+pub mod Choices
+pub mod NamesOf
+pub mod Noted
+pub mod ScopeOf
+pub mod MentionsOf
+pub mod Lent
+pub mod Taken

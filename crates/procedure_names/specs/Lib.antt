@@ -1,0 +1,10 @@
+pub mod Names
+pub mod Conditions
+pub mod Mentions
+pub mod UnknownNames
+pub mod DoubleParagraphs
+pub mod Firsts
+pub mod Scoped
+pub mod ConditionNames
+pub mod SeenConditions
+pub mod SeenNames
