@@ -1,0 +1,8 @@
+pub mod Arrows
+pub mod SpotsWithin
+pub mod Numbered
+pub mod NotedLines
+pub mod KeysOfFiles
+pub mod KeyNumbers
+pub mod FilesKnown
+pub mod Marks

@@ -1,0 +1,11 @@
+pub mod Reading
+pub mod Kinds
+pub mod Keys
+pub mod Performed
+pub mod Phrases
+pub mod Faults
+pub mod SeenSides
+pub mod SeenReading
+pub mod KnownFiles
+pub mod KnownProgram
+pub mod SeenMarks

@@ -1,0 +1,16 @@
+//! The rules of the language as far as they speak of a procedure division: the faults of each, with line and reason.
+#![tactic(auto)]
+
+mod judged_conditions;
+mod keys;
+mod kinds;
+mod known_files;
+mod known_program;
+mod performed;
+mod phrases;
+mod procedure_faults;
+mod reading;
+mod sides;
+mod values;
+
+pub use procedure_faults::note_procedure_faults;
