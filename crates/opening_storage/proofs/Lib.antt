@@ -1,0 +1,12 @@
+pub mod Lists
+pub mod Groups
+pub mod Sums
+pub mod Steps
+pub mod Members
+pub mod Tables
+pub mod ItemLaws
+pub mod Walk
+pub mod Entering
+pub mod Numbering
+pub mod WholeStorage
+pub mod Holding
