@@ -1,11 +1,11 @@
 -- Places that lie apart ascend strictly where they are sorted.
-use Rattle.std.proofs.Common.{◌≡◌, ◌∙◌, ◌≢◌, ◌⊎◌, inl, inr, refl, sym, ap, arith, ℕ, ◌+◌, ◌*◌, ◌<◌, ◌≤◌, true, false, List, length, get_or}
+use Rattle.std.proofs.Common.{◌≡◌, ◌∙◌, ◌≢◌, ◌⊎◌, inl, inr, refl, sym, ap, arith, ℕ, ◌<◌, ◌≤◌, List, length, get_or}
 use Rattle.std.specs.Prelude.{IsPermutation, swap}
 use Rattle.std.specs.List.Sorted.{IsNonDecreasingBy}
 use Rattle.std.proofs.lemmas.Bool.{cases_lt}
 use Rattle.std.proofs.lemmas.Bool.Decides.{eqb_tells}
 use Rattle.std.proofs.lemmas.List.Edits.{length-swap, swapped_from_swap}
-use Rattle.std.proofs.lemmas.List.Sorted.{IsPermutation-keeps, length_permutation}
+use Rattle.std.proofs.lemmas.List.Sorted.{IsPermutation-keeps}
 use Rattle.sharing_table.specs.declared.shape.KeyPlace.{KeyPlace}
 use Rattle.cobol_checker.specs.Sound.{rank, AreApart}
 use Rattle.cobol_checker.specs.Shapes.{IsBelow, AreAscending}

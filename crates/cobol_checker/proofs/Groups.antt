@@ -1,10 +1,11 @@
 -- A group around an item that passes a test, and the first item that passes.
-use Rattle.std.proofs.Common.{◌≡◌, ◌∙◌, ◌⊎◌, inl, inr, refl, sym, ap, Bool, true, false, ◌&&◌, ◌||◌, List, [], ◌∷◌, ◌++◌, append_assoc, append-nil, Some}
+use Rattle.std.proofs.Common.{◌≡◌, ◌∙◌, ◌⊎◌, inl, inr, refl, sym, ap, Bool, true, false, ◌||◌, List, [], ◌∷◌, ◌++◌, append_assoc, append-nil, Some}
 use Rattle.std.specs.Prelude.{if◌then◌else◌, filter, find}
 use Rattle.std.specs.List.{list_any, list_all}
 use Rattle.data_layout.specs.Storage.{goes_on}
 use Rattle.data_names.specs.Items.{DataItem}
-use Rattle.data_names.specs.Spots.{Spot, spots, spots_after, spot_of, open_after, around}
+use Rattle.data_names.specs.Spots.{Spot, spots_after, spot_of, open_after, around}
+use Rattle.data_names.proofs.Cuts.{chosen_cut}
 
 -- a group with what stands ahead of it and behind it: all that follows goes on in it
 pub record InGroup (before : List DataItem) (item : DataItem) (test : DataItem → Bool) : Type 0 where
@@ -46,20 +47,6 @@ found_first test before [] g rest n e = rw (e, append-nil before) refl
 found_first test before (x ∷ ahead) g rest n e =
     let parts = neither (test x) (list_any test ahead) n in
     rw parts.0 (found_first test (before ++ x ∷ []) ahead g rest parts.1 e ∙ ap (λ front. Some (spot_of front g rest)) (append_assoc before (x ∷ []) ahead))
-
--- ---- a spot among the others
-
-chosen_cut : {P : Type 0} (test : Spot DataItem → Bool) (b : Bool) (x spot : Spot DataItem) (xs : List (Spot DataItem)) → (if b then x ∷ xs else xs) ≡ spot ∷ [] → (x ≡ spot → P) → (xs ≡ spot ∷ [] → P) → P
-chosen_cut test true x spot xs e here later = let same : x ≡ spot = cc e in here same
-chosen_cut test false x spot xs e here later = later e
-
--- the one spot that was chosen stands among all of them
-pub spot_cut : (test : Spot DataItem → Bool) (before items : List DataItem) (spot : Spot DataItem) → filter test (spots_after before items) ≡ spot ∷ [] → before ++ items ≡ spot.before ++ spot.item ∷ spot.rest
-spot_cut test before [] spot e = cc e
-spot_cut test before (x ∷ items) spot e =
-    chosen_cut test (test (spot_of before x items)) (spot_of before x items) spot (filter test (spots_after (before ++ x ∷ []) items)) e
-    (λ same. ap (λ (one : Spot DataItem). one.before ++ one.item ∷ one.rest) same)
-    (λ later. sym (append_assoc before (x ∷ []) items) ∙ spot_cut test (before ++ x ∷ []) items spot later)
 
 -- what no spot has, it has not
 pub spot_lacks : (test p : Spot DataItem → Bool) (all : List (Spot DataItem)) (spot : Spot DataItem) → filter test all ≡ spot ∷ [] → list_any p all ≡ false → p spot ≡ false

@@ -1,24 +1,25 @@
 -- A front without faults has a layout.
-use Rattle.std.proofs.Common.{◌≡◌, ◌∙◌, refl, sym, ap, subst, Bool, true, false, not, ◌||◌, ◌&&◌, ◌==◌, ℕ, List, [], ◌∷◌, ◌++◌, map, ◌⊎◌, inl, inr, arith}
-use Rattle.std.specs.Prelude.{if◌then◌else◌, filter, is_some}
-use Rattle.std.specs.List.{list_any, list_all}
+use Rattle.std.proofs.Common.{◌≡◌, ◌∙◌, refl, sym, ap, subst, Bool, true, false, not, ◌||◌, ◌&&◌, ◌==◌, List, [], ◌∷◌, ◌++◌, map, ◌⊎◌, inl, inr, arith}
+use Rattle.std.specs.Prelude.{is_some}
+use Rattle.std.specs.List.{list_any}
 use Rattle.std.proofs.lemmas.List.{map-append}
 use Rattle.cob_base.specs.declared.divisions.Front.{Front}
 use Rattle.data_layout.specs.declared.row.Row.{Row}
 use Rattle.data_layout.specs.declared.row.Spelled.{Spelled}
 use Rattle.data_layout.specs.declared.row.Spelled.TheVariants as s
 use Rattle.data_layout.specs.declared.fault.LayoutFault.{LayoutFault}
-use Rattle.data_layout.specs.Rows.{sections, strays, rank, AreAllRows}
-use Rattle.data_layout.specs.Storage.{goes_on, opened, is_repeated}
-use Rattle.data_layout.specs.Faults.{level_fits, is_missing, is_unreadable, is_refused, is_in_range, has_bad_clauses, is_bad_level, passes_storage, passes_record, row_faults, faults_after, layout_faults, IsLeast}
+use Rattle.data_layout.specs.Rows.{sections, strays, rank}
+use Rattle.data_layout.specs.Storage.{is_repeated}
+use Rattle.data_layout.specs.Faults.{level_fits, is_missing, is_unreadable, is_refused, is_in_range, has_bad_clauses, is_bad_level, passes_storage, passes_record, faults_after, layout_faults, IsLeast}
 use Rattle.data_layout.specs.Outcome.{IsFaultOf}
-use Rattle.data_names.specs.Items.{DataItem, AreDataItems}
+use Rattle.data_names.specs.Items.{DataItem}
 use Rattle.data_names.specs.Spots.{Spot, spots, spots_after, spot_of, open_after, around}
 use Rattle.data_names.specs.Spots as n
-use Rattle.data_names.proofs.Opened.{list_any-map}
+use Rattle.data_names.proofs.Cuts.{repeated-is}
 use Rattle.data_names.proofs.SameItems.{all_rows_once}
-use Rattle.front_rules.specs.Clauses.{has_leading_sign, is_outside_of_items}
-use Rattle.front_rules.specs.Limits.{is_item_past_limit, is_too_wide}
+use Rattle.entry_clauses.specs.Clauses.{has_leading_sign, is_outside_of_items}
+use Rattle.front_rules.specs.Limits.{is_item_past_limit}
+use Rattle.entry_clauses.specs.Spelled.{is_too_wide}
 use Rattle.front_rules.specs.Levels.{has_bad_level}
 use Rattle.front_rules.specs.Kinds.{is_item_of_wrong_kind, has_bad_value}
 use Rattle.front_rules.specs.Outside.{is_item_outside}
@@ -29,37 +30,6 @@ pub neither : (a b : Bool) → (a || b) ≡ false → (a ≡ false) × (b ≡ fa
 neither false false h = (refl, refl)
 neither false true h = cc
 neither true b h = cc
-
--- ---- the groups of a row
-
-any_step : (a b : Bool) (x : DataItem) (test : DataItem → Bool) (xs : List DataItem) (r : Bool) → test x ≡ b → list_any test xs ≡ r → list_any test (if a then x ∷ xs else xs) ≡ ((a && b) || r)
-any_step true b x test xs r e h = rw (e, h) refl
-any_step false b x test xs r e h = h
-
-any_filter : (chosen test : DataItem → Bool) (xs : List DataItem) → list_any test (filter chosen xs) ≡ list_any (λ x. chosen x && test x) xs
-any_filter chosen test [] = refl
-any_filter chosen test (x ∷ xs) = any_step (chosen x) (test x) x test (filter chosen xs) _ refl (any_filter chosen test xs)
-
-list_all-map : {A B : Type 0} (f : A → B) (p : B → Bool) (xs : List A) → list_all p (map f xs) ≡ list_all (λ x. p (f x)) xs
-list_all-map f p [] = refl
-list_all-map f p (x ∷ xs) = ap (λ b. p (f x) && b) (list_all-map f p xs)
-
-opened_step : (a : Bool) (x : DataItem) (xs : List DataItem) (rows : List Row) → rows ≡ map (λ (item : DataItem). item.row) xs
-    → (if a then x.row ∷ rows else rows) ≡ map (λ (item : DataItem). item.row) (if a then x ∷ xs else xs)
-opened_step true x xs rows e = ap (λ others. x.row ∷ others) e
-opened_step false x xs rows e = e
-
-pub opened-map : (before : List DataItem) → opened (map (λ item. item.row) before) ≡ map (λ item. item.row) (open_after (λ item. item.row) before)
-opened-map [] = refl
-opened-map (x ∷ later) =
-    rw (list_all-map (λ (item : DataItem). item.row) (goes_on x.row) later)
-    (opened_step (list_all (λ (other : DataItem). goes_on x.row other.row) later) x (open_after (λ (item : DataItem). item.row) later) (opened (map (λ (item : DataItem). item.row) later)) (opened-map later))
-
-pub repeated-is : (spot : Spot DataItem) → n.is_repeated spot ≡ is_repeated (n.rows_before spot) spot.item.row
-repeated-is spot =
-    any_filter (λ (group : DataItem). goes_on group.row spot.item.row) (λ (group : DataItem). is_some group.row.occurs) (open_after (λ (item : DataItem). item.row) spot.before)
-    ∙ sym (list_any-map (λ (item : DataItem). item.row) (λ (group : Row). goes_on group spot.item.row && is_some group.occurs) (open_after (λ (item : DataItem). item.row) spot.before))
-    ∙ ap (list_any (λ (group : Row). goes_on group spot.item.row && is_some group.occurs)) (sym (opened-map spot.before))
 
 -- ---- a row without faults
 

@@ -9,3 +9,14 @@ pub mod SoundFiles
 pub mod RecordBytes
 pub mod Groups
 pub mod SoundKeys
+pub mod KeepsRules
+pub mod Innermost
+pub mod LayoutNames
+pub mod ScreenClauses
+pub mod ScreenLevels
+pub mod ScreenPlaces
+pub mod ScreenPictures
+pub mod ScreenContents
+pub mod ScreenReferences
+pub mod ScreensPlanned
+pub mod CanOpen

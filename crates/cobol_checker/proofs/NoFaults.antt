@@ -1,5 +1,5 @@
 -- What a front has of which no condition fails.
-use Rattle.std.proofs.Common.{◌≡◌, refl, Bool, true, false, ◌||◌, ℕ, List, [], ◌∷◌, ◌++◌, map, drop}
+use Rattle.std.proofs.Common.{◌≡◌, refl, Bool, true, false, ℕ, List, [], ◌∷◌, ◌++◌, map, drop}
 use Rattle.std.specs.Prelude.{if◌then◌else◌, filter}
 use Rattle.std.specs.List.{list_any}
 use Rattle.cob_base.specs.declared.line.Line.{Line}
@@ -10,19 +10,21 @@ use Rattle.data_layout.specs.Faults.{is_unreadable}
 use Rattle.data_names.specs.Items.{DataItem}
 use Rattle.data_names.specs.Parts.{files}
 use Rattle.data_names.specs.Spots.{Spot, spots}
-use Rattle.front_rules.specs.declared.fault.Fault.{Fault}
-use Rattle.front_rules.specs.ScreenItems.{ScreenItem}
-use Rattle.front_rules.specs.Faults.{faults_at, front_faults}
-use Rattle.front_rules.specs.UnknownNames.{unknown_names, ambiguous_names}
-use Rattle.front_rules.specs.DoubleNames.{double_names}
+use Rattle.entry_clauses.specs.ScreenItems.{ScreenItem}
+use Rattle.name_rules.specs.Faults.{faults_at}
+use Rattle.front_rules.specs.Faults.{front_faults}
+use Rattle.name_rules.specs.UnknownNames.{unknown_names, ambiguous_names}
+use Rattle.name_rules.specs.DoubleNames.{double_names}
 use Rattle.front_rules.specs.Pictures.{bad_pictures, has_bad_screen_picture}
-use Rattle.front_rules.specs.Limits.{past_limits, is_item_past_limit, is_too_wide, has_key_past_limit}
-use Rattle.front_rules.specs.Kinds.{wrong_kinds, wrong_in_environment, wrong_in_data, is_item_of_wrong_kind, is_screen_of_wrong_kind}
+use Rattle.front_rules.specs.Limits.{past_limits, is_item_past_limit, has_key_past_limit}
+use Rattle.entry_clauses.specs.Spelled.{is_too_wide}
+use Rattle.front_rules.specs.Kinds.{wrong_kinds, wrong_in_environment, wrong_in_data, is_item_of_wrong_kind}
+use Rattle.screen_rules.specs.ScreenKinds.{is_screen_of_wrong_kind}
 use Rattle.front_rules.specs.Levels.{misplaced_entries}
 use Rattle.front_rules.specs.KeyPlaces.{bad_key_places, has_bad_keys}
 use Rattle.front_rules.specs.Outside.{left_out, is_file_outside, is_item_outside, is_screen_outside}
-use Rattle.front_rules.specs.Placing.{off_screen}
-use Rattle.front_rules.specs.Subscripts.{miscounted_subscripts}
+use Rattle.screen_rules.specs.Placing.{off_screen}
+use Rattle.name_rules.specs.Subscripts.{miscounted_subscripts}
 
 -- ---- empty lists
 

@@ -1,12 +1,12 @@
 -- The bytes of a record and of what lies in it.
-use Rattle.std.proofs.Common.{◌≡◌, ◌∙◌, refl, sym, ap, subst, arith, ℕ, ◌+◌, ◌*◌, ◌<◌, ◌≤◌, Bool, true, false, not, ◌&&◌, List, [], ◌∷◌, ◌++◌, append_assoc, append-nil, add-one, length, take}
+use Rattle.std.proofs.Common.{◌≡◌, ◌∙◌, refl, sym, ap, arith, ℕ, ◌+◌, ◌*◌, ◌≤◌, Bool, true, false, ◌&&◌, List, [], ◌∷◌, ◌++◌, append_assoc, append-nil, add-one, take}
 use Rattle.std.specs.Prelude.{if◌then◌else◌, take_while}
 use Rattle.std.specs.List.{list_all, prefix_len}
 use Rattle.std.proofs.lemmas.List.Folds.{list_all-append}
 use Rattle.data_layout.specs.declared.row.Row.{Row}
 use Rattle.data_layout.specs.Storage.{goes_on, opened, members, own_size, times, bytes_after, storage}
 use Rattle.data_layout.specs.Layout.{size_of}
-use Rattle.data_layout.proofs.Groups.{bytes_after-append, storage-append}
+use Rattle.data_layout.proofs.Groups.{storage-append}
 use Rattle.data_layout.proofs.Places.{size_le}
 
 -- ---- the front of a list that passes

@@ -1,7 +1,7 @@
 -- The record of a file, by its number and among the others.
-use Rattle.std.proofs.Common.{◌≡◌, ◌∙◌, refl, sym, ap, subst, arith, ℕ, zero, suc, ◌+◌, ◌<◌, Bool, true, false, List, [], ◌∷◌, ◌++◌, append_assoc, append-nil, length, Option, Some, None}
+use Rattle.std.proofs.Common.{◌≡◌, ◌∙◌, refl, sym, ap, subst, arith, ℕ, suc, ◌+◌, Bool, true, false, List, [], ◌∷◌, ◌++◌, Some, None}
 use Rattle.std.specs.Prelude.{if◌then◌else◌, find, position, slice_get}
-use Rattle.std.specs.List.{list_any, position_from}
+use Rattle.std.specs.List.{position_from}
 use Rattle.std.proofs.lemmas.Iterator.Adapters.{position_from-zero}
 use Rattle.std.proofs.lemmas.Option.{slice_get_within}
 use Rattle.cob_base.specs.declared.divisions.Front.{Front}
@@ -11,7 +11,7 @@ use Rattle.data_names.specs.Spots.{Spot, spots, spots_after, spot_of}
 use Rattle.data_names.proofs.Surveys.{length-spots}
 use Rattle.front_rules.specs.declared.descriptions.Description.{Description}
 use Rattle.front_rules.specs.KeyPlaces.{description_of}
-use Rattle.front_rules.specs.Descriptions.{IsDescription, IsDescriptionOf, is_record_under}
+use Rattle.front_rules.specs.Descriptions.{IsDescriptionOf, is_record_under}
 use Rattle.cobol_checker.specs.Sound.{IsSoundFile, IsRecordAt}
 use Rattle.cobol_checker.specs.Shapes.{record_of}
 

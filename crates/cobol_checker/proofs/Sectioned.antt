@@ -1,5 +1,5 @@
 -- Items stand section by section: the records of each file in order, then working storage.
-use Rattle.std.proofs.Common.{◌≡◌, ◌∙◌, ◌⊎◌, inl, inr, refl, sym, ap, subst, arith, ℕ, ◌+◌, ◌<◌, ◌≤◌, Bool, true, false, not, ◌==◌, ◌||◌, ◌&&◌, List, [], ◌∷◌, ◌++◌, append_assoc, append-nil, length, map, Option, Some, None}
+use Rattle.std.proofs.Common.{◌≡◌, ◌∙◌, ◌⊎◌, inl, inr, refl, sym, ap, subst, arith, ℕ, ◌+◌, ◌<◌, ◌≤◌, Bool, true, false, not, ◌&&◌, List, [], ◌∷◌, ◌++◌, append_assoc, append-nil, length, map, Option, Some, None}
 use Rattle.std.specs.Prelude.{is_some}
 use Rattle.std.specs.List.{list_any, list_all}
 use Rattle.std.proofs.lemmas.Bool.Decides.{nat_tests}
@@ -15,7 +15,6 @@ use Rattle.data_names.specs.Parts.{Source, item_entries, descriptions_of, workin
 use Rattle.data_names.specs.Items.{DataItem, AreDataItems, file_sources}
 use Rattle.data_names.specs.Seen.{filed}
 use Rattle.front_rules.specs.KeyPlaces.{same_number}
-use Rattle.cobol_checker.proofs.NoFaults.{map_empty}
 
 -- a file of a number that is n at least
 abbrev pub IsLater : ℕ → Option ℕ → Type 0

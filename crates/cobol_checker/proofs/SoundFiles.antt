@@ -1,10 +1,9 @@
 -- The files of a front without faults.
-use Rattle.std.proofs.Common.{◌≡◌, ◌∙◌, ◌≢◌, ◌⊎◌, inl, inr, refl, sym, ap, subst, arith, ℕ, zero, suc, ◌+◌, ◌*◌, ◌<◌, ◌≤◌, ◌==◌, Bool, true, false, not, ◌&&◌, ◌||◌, nat_lt, List, [], ◌∷◌, ◌++◌, length, map, get_or, Option, Some, None}
-use Rattle.std.specs.Prelude.{filter, position, option_to_list, is_none, count_by, slice_get}
+use Rattle.std.proofs.Common.{◌≡◌, ◌∙◌, inl, inr, refl, sym, ap, subst, arith, ℕ, zero, suc, ◌+◌, ◌<◌, ◌==◌, Bool, true, false, not, ◌&&◌, ◌||◌, nat_lt, List, [], ◌∷◌, ◌++◌, length, map, get_or, Option, Some, None}
+use Rattle.std.specs.Prelude.{filter, option_to_list, is_none, count_by, slice_get}
 use Rattle.std.specs.List.{list_any, list_all, filter_map, flat_map, position_from}
 use Rattle.std.proofs.lemmas.Bool.{cases_lt, eq-eqb}
 use Rattle.std.proofs.lemmas.Iterator.Adapters.{position_from-zero}
-use Rattle.std.proofs.lemmas.List.{get_or-map, length-map}
 use Rattle.cob_base.specs.declared.divisions.Front.{Front}
 use Rattle.cob_base.specs.declared.divisions.FileDescription.{FileDescription}
 use Rattle.cob_base.specs.declared.file_entries.FileEntry.{FileEntry}
@@ -15,21 +14,21 @@ use Rattle.data_layout.specs.Faults.{has_size, is_unreadable}
 use Rattle.data_layout.proofs.PlacedRows.{keeps_limit}
 use Rattle.data_names.specs.Items.{DataItem, AreDataItems}
 use Rattle.data_names.specs.Parts.{files, descriptions, crt_status, screen_entries}
-use Rattle.data_names.specs.Spots.{Spot, spots, rows_before, bytes_of}
+use Rattle.data_names.specs.Spots.{Spot, rows_before, bytes_of}
 use Rattle.data_names.specs.References.{found, same_name, count_of_matches}
 use Rattle.data_names.proofs.Opened.{list_any-map}
 use Rattle.data_names.proofs.SameItems.{items_once}
-use Rattle.front_rules.specs.Clauses.{Alternate, record_key, alternates, file_status}
-use Rattle.front_rules.specs.Mentions.{Mention, mention, mentions, references, subscript_items, keys_of, references_of_file, references_of_screen, reference_of_crt}
+use Rattle.entry_clauses.specs.Clauses.{Alternate, record_key, alternates, file_status}
+use Rattle.name_rules.specs.Mentions.{Mention, mention, mentions, references, subscript_items, keys_of, references_of_file, references_of_screen, reference_of_crt}
 use Rattle.front_rules.specs.Faults.{front_faults}
-use Rattle.front_rules.specs.UnknownNames.{unknown_names, ambiguous_names, is_described, is_selected}
+use Rattle.name_rules.specs.UnknownNames.{is_described}
 use Rattle.front_rules.specs.Limits.{is_key_past_limit, has_key_past_limit}
-use Rattle.front_rules.specs.KeyPlaces.{description_of, same_number, is_no_key, are_sized_under, span_of_key, same_span, has_twins, has_no_key, are_at_one_place, has_bad_clauses, has_bad_keys}
-use Rattle.front_rules.specs.ScreenItems.{ScreenItem}
+use Rattle.front_rules.specs.KeyPlaces.{description_of, same_number, is_no_key, are_sized_under, placed_key, same_place, has_twins, has_no_key, are_at_one_place, has_bad_clauses, has_bad_keys}
+use Rattle.entry_clauses.specs.ScreenItems.{ScreenItem}
 use Rattle.cobol_checker.specs.Judged.{IsFaultless}
-use Rattle.cobol_checker.specs.Shapes.{IsKeyPlace, AreKeyPlaces, record_of}
-use Rattle.cobol_checker.specs.Sound.{IsPlaceIn, IsKeyIn, AreKeysIn, IsPrimeIn, AreApart, IsSoundFile, AreSoundFiles, rank}
-use Rattle.cobol_checker.proofs.NoFaults.{Faultless, faultless_of, NoneFails, none_fails, empty_parts, none_told}
+use Rattle.cobol_checker.specs.Shapes.{AreKeyPlaces, record_of}
+use Rattle.cobol_checker.specs.Sound.{IsPlaceIn, AreKeysIn, AreApart, IsSoundFile, AreSoundFiles, rank}
+use Rattle.cobol_checker.proofs.NoFaults.{faultless_of, NoneFails, none_fails, empty_parts, none_told}
 use Rattle.cobol_checker.proofs.LaidOut.{laid_rows}
 use Rattle.cobol_checker.proofs.Sectioned.{sectioned}
 use Rattle.cobol_checker.proofs.SoundKeys.{Whole, KeyGood, key_good}
@@ -179,39 +178,52 @@ later_twins : {A B : Type 0} (same : B → B → Bool) (f : A → Option B) (x :
 later_twins same f x xs None e h = rw e at h
 later_twins same f x xs (Some y) e h = (neither (list_any (same y) (filter_map f xs)) _ (rw e at h)).1
 
--- where the keys of some alternates lie
-span_at : (front : Front) (items : List DataItem) (file : FileEntry) (number begins : ℕ) (others : List Alternate) (places : List KeyPlace) → AllGood front items file number (map (λ (one : Alternate). one.key) others)
-    → AreKeyPlaces items begins others places → (i : ℕ) (d : KeyPlace) → i < length places
-    → slice_get (filter_map (λ (key : Reference). span_of_key (Some number) (found items key)) (map (λ (one : Alternate). one.key) others)) i
-    ≡ Some (record { offset = begins + (get_or places i d).offset; size = (get_or places i d).length })
-span_at front items file number begins [] places g k i d h = absurd (omega (arith, ap length k, h))
-span_at front items file number begins (one ∷ others) [] g k i d h = absurd k
-span_at front items file number begins (one ∷ others) (place ∷ places) g k zero d h =
-    let same : g.0.spot ≡ k.0.spot = cc (g.0.found_is, k.0.found_is) in
-    let offset : begins + place.offset ≡ storage (rows_before g.0.spot) = k.0.offset ∙ ap (λ (spot : Spot DataItem). storage (rows_before spot)) (sym same) in
-    let size : place.length ≡ bytes_of g.0.spot = k.0.length_is ∙ ap bytes_of (sym same) in
-    rw (g.0.found_is, g.0.span, offset, size) refl
-span_at front items file number begins (one ∷ others) (place ∷ places) g k (suc i) d h =
-    rw (g.0.found_is, g.0.span) (span_at front items file number begins others places g.1 k.1 i d (omega arith))
+-- the item of an alternate, which lies at its place
+record SpotAt (spots : List (Spot DataItem)) (i begins : ℕ) (place : KeyPlace) : Type 0 where
+  spot : Spot DataItem
+  at : slice_get spots i ≡ Some spot
+  offset : storage (rows_before spot) ≡ begins + place.offset
+  size : bytes_of spot ≡ place.length
 
-same_place : (begins : ℕ) (p q : KeyPlace) → p.length < 65536 → q.length < 65536 → rank p ≡ rank q → ((begins + p.offset == begins + q.offset) && (p.length == q.length)) ≡ true
-same_place begins p q hp hq e =
-    let offsets : begins + p.offset ≡ begins + q.offset = omega (arith, hp, hq, e) in
-    let lengths : p.length ≡ q.length = omega (arith, hp, hq, e) in
-    rw (eq-eqb (begins + p.offset) (begins + q.offset) offsets, eq-eqb p.length q.length lengths) refl
+-- where the keys of some alternates lie
+spot_at : (front : Front) (items : List DataItem) (file : FileEntry) (number begins : ℕ) (others : List Alternate) (places : List KeyPlace) → AllGood front items file number (map (λ (one : Alternate). one.key) others)
+    → AreKeyPlaces items begins others places → (i : ℕ) (d : KeyPlace) → i < length places
+    → SpotAt (filter_map (λ (key : Reference). placed_key (Some number) (found items key)) (map (λ (one : Alternate). one.key) others)) i begins (get_or places i d)
+spot_at front items file number begins [] places g k i d h = absurd (omega (arith, ap length k, h))
+spot_at front items file number begins (one ∷ others) [] g k i d h = absurd k
+spot_at front items file number begins (one ∷ others) (place ∷ places) g k zero d h =
+    let same : g.0.spot ≡ k.0.spot = cc (g.0.found_is, k.0.found_is) in
+    record {
+      spot = g.0.spot;
+      at = rw (g.0.found_is, g.0.placed) refl;
+      offset = ap (λ (spot : Spot DataItem). storage (rows_before spot)) same ∙ sym k.0.offset;
+      size = ap bytes_of same ∙ sym k.0.length_is;
+    }
+spot_at front items file number begins (one ∷ others) (place ∷ places) g k (suc i) d h =
+    let later = spot_at front items file number begins others places g.1 k.1 i d (omega arith) in
+    record { spot = later.spot; at = rw (g.0.found_is, g.0.placed) later.at; offset = later.offset; size = later.size }
+
+together : (begins s t u v : ℕ) (p q : KeyPlace) → s ≡ begins + p.offset → t ≡ begins + q.offset → u ≡ p.length → v ≡ q.length → p.length < 65536 → q.length < 65536 → rank p ≡ rank q
+    → ((s == t) && (u == v)) ≡ true
+together begins s t u v p q so to us ve hp hq e =
+    let offsets : s ≡ t = omega (arith, so, to, hp, hq, e) in
+    let lengths : u ≡ v = omega (arith, us, ve, hp, hq, e) in
+    rw (eq-eqb s t offsets, eq-eqb u v lengths) refl
 
 places_apart : (front : Front) (items : List DataItem) (file : FileEntry) (number begins : ℕ) (others : List Alternate) (places : List KeyPlace) → AllGood front items file number (map (λ (one : Alternate). one.key) others)
-    → AreKeyPlaces items begins others places → has_twins same_span (filter_map (λ (key : Reference). span_of_key (Some number) (found items key)) (map (λ (one : Alternate). one.key) others)) ≡ false
+    → AreKeyPlaces items begins others places → has_twins same_place (filter_map (λ (key : Reference). placed_key (Some number) (found items key)) (map (λ (one : Alternate). one.key) others)) ≡ false
     → (i j : ℕ) (d : KeyPlace) → i < j → j < length places → rank (get_or places i d) ≡ rank (get_or places j d) → ⊥
 places_apart front items file number begins others places g k t i j d l h e =
     let within : i < length places = omega (arith, l, h) in
-    let short_i = short_places front items file number begins others places g k i d within in
-    let short_j = short_places front items file number begins others places g k j d h in
-    let apart = twins_apart same_span _ i j _ _ t l (span_at front items file number begins others places g k i d within) (span_at front items file number begins others places g k j d h) in
-    cc (apart, same_place begins (get_or places i d) (get_or places j d) short_i short_j e)
+    let x = spot_at front items file number begins others places g k i d within in
+    let y = spot_at front items file number begins others places g k j d h in
+    let short_x = short_places front items file number begins others places g k i d within in
+    let short_y = short_places front items file number begins others places g k j d h in
+    let apart = twins_apart same_place _ i j x.spot y.spot t l x.at y.at in
+    cc (apart, together begins (storage (rows_before x.spot)) (storage (rows_before y.spot)) (bytes_of x.spot) (bytes_of y.spot) (get_or places i d) (get_or places j d) x.offset y.offset x.size y.size short_x short_y e)
 
 apart_places : (front : Front) (items : List DataItem) (file : FileEntry) (number begins : ℕ) (others : List Alternate) → AllGood front items file number (map (λ (one : Alternate). one.key) others)
-    → has_twins same_span (filter_map (λ (key : Reference). span_of_key (Some number) (found items key)) (map (λ (one : Alternate). one.key) others)) ≡ false
+    → has_twins same_place (filter_map (λ (key : Reference). placed_key (Some number) (found items key)) (map (λ (one : Alternate). one.key) others)) ≡ false
     → (places : List KeyPlace) → AreKeyPlaces items begins others places → AreApart places
 apart_places front items file number begins others g t places k = record {
   apart = λ i j d hi hj ne e. elim (cases_lt i j) as (λ _. ⊥) [
@@ -249,7 +261,7 @@ file_sound front items file w u none several bad past =
     let twins : are_at_one_place items (Some number) file ≡ false = ap (λ (one : Option ℕ). are_at_one_place items one file) (sym n.1) ∙ second (are_sized_under items description) (are_at_one_place items description file) bad2.1 (sized_under items description w.sized) in
     let all = all_good front items file number (keys_of file) w n.1 none several no_key past in
     let good = subst (AllGood front items file number) keys_are all in
-    let apart = later_twins same_span (λ (key : Reference). span_of_key (Some number) (found items key)) prime.0 others _ refl (subst (λ (keys : List Reference). has_twins same_span (filter_map (λ (key : Reference). span_of_key (Some number) (found items key)) keys) ≡ false) keys_are twins) in
+    let apart = later_twins same_place (λ (key : Reference). placed_key (Some number) (found items key)) prime.0 others _ refl (subst (λ (keys : List Reference). has_twins same_place (filter_map (λ (key : Reference). placed_key (Some number) (found items key)) keys) ≡ false) keys_are twins) in
     record {
       number = number;
       described = n.1;

@@ -1,6 +1,6 @@
 -- A key of a file of a front without faults lies in the file's record.
-use Rattle.std.proofs.Common.{◌≡◌, ◌∙◌, ◌⊎◌, inl, inr, refl, sym, ap, subst, arith, ℕ, ◌+◌, ◌-◌, ◌^◌, ◌<◌, ◌≤◌, ◌==◌, Bool, true, false, not, ◌&&◌, ◌||◌, nat_lt, List, [], ◌∷◌, ◌++◌, append_assoc, append-nil, length, map, Option, Some, None}
-use Rattle.std.specs.Prelude.{filter, find, is_some}
+use Rattle.std.proofs.Common.{◌≡◌, ◌∙◌, refl, sym, ap, subst, arith, ℕ, ◌+◌, ◌≤◌, ◌==◌, Bool, true, false, not, ◌&&◌, ◌||◌, nat_lt, List, [], ◌∷◌, ◌++◌, append_assoc, append-nil, length, map, Option, Some, None}
+use Rattle.std.specs.Prelude.{find, is_some}
 use Rattle.std.specs.List.{list_any, list_all}
 use Rattle.std.proofs.lemmas.Bool.{eqb-true, eq-eqb}
 use Rattle.std.proofs.lemmas.Bool.Decides.{nat_tests}
@@ -11,19 +11,20 @@ use Rattle.cob_base.specs.declared.file_entries.FileEntry.{FileEntry}
 use Rattle.cob_base.specs.declared.operands.Reference.{Reference}
 use Rattle.data_layout.specs.declared.row.Row.{Row}
 use Rattle.data_layout.specs.Storage.{goes_on, members, storage}
-use Rattle.data_layout.specs.Layout.{size_of}
-use Rattle.data_layout.specs.Faults.{has_size, is_unreadable, is_in_range, passes_storage, passes_record}
-use Rattle.data_names.specs.Items.{DataItem, AreDataItems}
+use Rattle.data_layout.specs.Faults.{has_size, is_in_range, passes_storage, passes_record}
+use Rattle.data_names.specs.Items.{DataItem}
 use Rattle.data_names.specs.Spots.{Spot, spots, spots_after, spot_of, groups_of, rows_before, rows_after, bytes_of, is_sized, is_table, is_record, is_in_record}
 use Rattle.data_names.specs.References.{found, only_one, matching, is_match, count_of_matches}
-use Rattle.front_rules.specs.Limits.{is_item_past_limit, is_key_past_limit, is_too_wide}
-use Rattle.front_rules.specs.KeyPlaces.{description_of, same_number, is_of_record, is_signed_item, is_no_key, is_counted, span_of_key}
+use Rattle.data_names.proofs.Cuts.{spot_cut}
+use Rattle.front_rules.specs.Limits.{is_item_past_limit, is_key_past_limit}
+use Rattle.entry_clauses.specs.Spelled.{is_too_wide}
+use Rattle.front_rules.specs.KeyPlaces.{description_of, same_number, is_of_record, is_signed_item, is_no_key, placed_key}
 use Rattle.front_rules.specs.Descriptions.{is_record_under}
 use Rattle.cobol_checker.specs.Shapes.{record_of}
 use Rattle.cobol_checker.specs.Sound.{IsPlaceIn}
 use Rattle.cobol_checker.proofs.Sectioned.{Sectioned, one_file, inside_file, first_of_file}
 use Rattle.cobol_checker.proofs.RecordBytes.{within_record, no_less, size_within, while_all}
-use Rattle.cobol_checker.proofs.Groups.{InGroup, in_group, found_first, spot_cut}
+use Rattle.cobol_checker.proofs.Groups.{InGroup, in_group, found_first}
 
 -- ---- tests
 
@@ -46,9 +47,6 @@ second false b h e = cc e
 
 no_more : (k n : ℕ) → nat_lt k n ≡ false → n ≤ k
 no_more k n h = grind (arith, nat_tests)
-
-counted_small : (n : ℕ) → n ≤ 1000000 → is_counted n ≡ true
-counted_small n h = let less : n < 2 ^ 64 - 1 = omega arith in grind (arith, nat_tests)
 
 number_known : (number : ℕ) (file : Option ℕ) → same_number (Some number) file ≡ true → file ≡ Some number
 number_known number None h = cc h
@@ -123,7 +121,7 @@ pub record KeyGood (front : Front) (items : List DataItem) (file : FileEntry) (n
   pub inside : IsPlaceIn (storage (rows_before owner)) spot
   pub few : bytes_of owner ≤ 512
   pub begins : storage (rows_before owner) ≤ 1000000
-  pub span : span_of_key (Some number) (Some spot) ≡ Some (record { offset = storage (rows_before spot); size = bytes_of spot })
+  pub placed : placed_key (Some number) (Some spot) ≡ Some spot
 
 -- the record around an item
 record Owner (front : Front) (items : List DataItem) (file : FileEntry) (spot : Spot DataItem) : Type 0 where
@@ -224,9 +222,6 @@ key_good front items file number key w d some few lies past =
     let sized = subst (λ (all : List DataItem). list_all (λ (item : DataItem). has_size item.row) all ≡ true) cut w.sized in
     let bytes : bytes_of spot ≤ 64 = few_of_key (is_sized spot) (bytes_of spot == 0) (bytes_of spot) (sized_from spot.before spot.item spot.rest sized) past' in
     let small : storage (rows_before spot) ≤ 1000000 = before_total items spot.before (spot.item ∷ spot.rest) w cut in
-    let few_bytes_of : bytes_of spot ≤ 1000000 = omega (arith, bytes) in
-    let c1 : is_counted (storage (rows_before spot)) ≡ true = counted_small (storage (rows_before spot)) small in
-    let c2 : is_counted (bytes_of spot) ≡ true = counted_small (bytes_of spot) few_bytes_of in
     record {
       spot = spot;
       found_is = found_is;
@@ -235,5 +230,5 @@ key_good front items file number key w d some few lies past =
       inside = record { low = owner.low; high = owner.high; small = small; few = bytes };
       few = owner.few;
       begins = owner.begins;
-      span = rw (of_record, tables.1, c1, c2) refl;
+      placed = rw (of_record, tables.1) refl;
     }

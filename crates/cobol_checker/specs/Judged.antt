@@ -1,15 +1,20 @@
--- What the judging of a front comes to.
+-- What the judging of a program comes to.
 use Rattle.std.specs.Prelude.{◌≡◌, List, []}
+use Rattle.cob_base.specs.declared.line.Line.{Line}
 use Rattle.cob_base.specs.declared.divisions.Front.{Front}
+use Rattle.cob_base.specs.declared.paragraphs.Program.{Program}
 use Rattle.sharing_table.specs.declared.shape.Shape.{Shape}
 use Rattle.data_names.specs.Items.{DataItem, AreDataItems}
-use Rattle.front_rules.specs.ScreenItems.{ScreenItem, AreScreenItems}
-use Rattle.front_rules.specs.Faults.{front_faults, IsLeast}
+use Rattle.entry_clauses.specs.ScreenItems.{ScreenItem, AreScreenItems}
+use Rattle.front_rules.specs.Faults.{front_faults}
+use Rattle.procedure_rules.specs.Performed.{AreCycleLines}
+use Rattle.procedure_rules.specs.Faults.{program_faults}
+use Rattle.cobol_checker.specs.Outcome.{IsRefused}
 use Rattle.cobol_checker.specs.Shapes.{AreShapes}
 use Rattle.cobol_checker.specs.declared.checking.Verdict.{Verdict}
 use Rattle.cobol_checker.specs.declared.checking.Verdict.TheVariants as v
 
--- no condition fails
+-- no condition on the front fails
 pub record IsFaultless (front : Front) : Type 0 where
   pub items : List DataItem
   pub screens : List ScreenItem
@@ -17,13 +22,22 @@ pub record IsFaultless (front : Front) : Type 0 where
   pub screens_are : AreScreenItems front screens
   pub faultless : front_faults front items screens ≡ []
 
--- no condition fails, and these are the shapes of the files
-pub record IsKept (front : Front) (shapes : List Shape) : Type 0 where
-  pub faultless : IsFaultless front
-  pub shapes_are : AreShapes front faultless.items shapes
+-- no condition on the program fails
+pub record BreaksNoRule (program : Program) : Type 0 where
+  pub items : List DataItem
+  pub screens : List ScreenItem
+  pub cycles : List Line
+  pub items_are : AreDataItems program.front items
+  pub screens_are : AreScreenItems program.front screens
+  pub cycles_are : AreCycleLines program.paragraphs cycles
+  pub faultless : program_faults program items screens cycles ≡ []
 
--- a front without faults and the shapes of its files, or the least fault
-abbrev pub IsJudged : Front → Verdict → Type 0
-IsJudged front (v.Kept shapes) = IsKept front shapes
-IsJudged front (v.Refused fault) =
-    (items : List DataItem) × (screens : List ScreenItem) × AreDataItems front items × AreScreenItems front screens × IsLeast (front_faults front items screens) fault
+-- no condition fails, and these are the shapes of the files
+pub record IsKept (program : Program) (shapes : List Shape) : Type 0 where
+  pub breaks_none : BreaksNoRule program
+  pub shapes_are : AreShapes program.front breaks_none.items shapes
+
+-- a program that breaks no rule and the shapes of its files, or the least fault
+abbrev pub IsJudged : Program → Verdict → Type 0
+IsJudged program (v.Kept shapes) = IsKept program shapes
+IsJudged program (v.Refused fault) = IsRefused program fault

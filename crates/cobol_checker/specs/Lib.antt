@@ -1,6 +1,5 @@
 pub mod Shapes
 pub mod Outcome
-pub mod Opening
 pub mod Judged
 pub mod Seen
 pub mod Sound

@@ -1,5 +1,5 @@
 -- The shape of a file's records, as its file control entry and its record say it.
-use Rattle.std.specs.Prelude.{◌≡◌, ℕ, ◌+◌, ◌<◌, ◌⊎◌, Bool, false, ◌&&◌, List, [], ◌∷◌, Option, Some, None, IsPermutation, AllPairs, find}
+use Rattle.std.specs.Prelude.{◌≡◌, ℕ, ◌+◌, ◌<◌, ◌⊎◌, Bool, false, ◌&&◌, List, [], ◌∷◌, Option, Some, IsPermutation, AllPairs, find}
 use Rattle.cob_base.specs.declared.divisions.Front.{Front}
 use Rattle.cob_base.specs.declared.file_entries.FileEntry.{FileEntry}
 use Rattle.cob_base.specs.declared.operands.Reference.{Reference}
@@ -7,7 +7,7 @@ use Rattle.data_layout.specs.Storage.{storage}
 use Rattle.sharing_table.specs.declared.shape.Shape.{Shape}
 use Rattle.sharing_table.specs.declared.shape.KeyPlace.{KeyPlace}
 use Rattle.data_names.specs.Parts.{files}
-use Rattle.front_rules.specs.Clauses.{Alternate, record_key, alternates}
+use Rattle.entry_clauses.specs.Clauses.{Alternate, record_key, alternates}
 use Rattle.data_names.specs.Items.{DataItem}
 use Rattle.data_names.specs.Spots.{Spot, spots, rows_before, bytes_of, is_record}
 use Rattle.data_names.specs.References.{found}

@@ -1,5 +1,5 @@
 -- What the shape of a file without faults rests on: its record is there, its keys lie in it, and they lie apart.
-use Rattle.std.specs.Prelude.{◌≡◌, ℕ, ◌+◌, ◌*◌, ◌<◌, ◌≤◌, ◌≢◌, Bool, List, [], ◌∷◌, length, Option, Some, slice_get, slice_index_or}
+use Rattle.std.specs.Prelude.{◌≡◌, ℕ, ◌+◌, ◌*◌, ◌<◌, ◌≤◌, ◌≢◌, Bool, List, [], ◌∷◌, length, Some, slice_get, slice_index_or}
 use Rattle.cob_base.specs.declared.divisions.Front.{Front}
 use Rattle.cob_base.specs.declared.file_entries.FileEntry.{FileEntry}
 use Rattle.cob_base.specs.declared.file_entries.FileClause.{FileClause}
@@ -9,7 +9,7 @@ use Rattle.sharing_table.specs.declared.shape.KeyPlace.{KeyPlace}
 use Rattle.data_names.specs.Items.{DataItem}
 use Rattle.data_names.specs.Spots.{Spot, spots, rows_before, bytes_of}
 use Rattle.data_names.specs.References.{found}
-use Rattle.front_rules.specs.Clauses.{Alternate, record_key, alternates}
+use Rattle.entry_clauses.specs.Clauses.{Alternate, record_key, alternates}
 use Rattle.front_rules.specs.KeyPlaces.{description_of}
 use Rattle.cobol_checker.specs.Shapes.{record_of, AreKeyPlaces}
 

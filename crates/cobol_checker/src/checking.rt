@@ -1,4 +1,5 @@
-ghost use Rattle.std.specs.Prelude.{◌≡◌, ◌⊎◌, [], map, IfOk, IfErr};
+ghost use Rattle.std.specs.Prelude.{◌≡◌, ◌⊎◌, List, map, IfOk, IfErr};
+ghost use Rattle.cob_base.specs.declared.line.Line.{Line};
 ghost use Rattle.data_layout.specs.declared.row.Row.{Row};
 ghost use Rattle.data_layout.specs.Rows.{sections, AreAllRows};
 ghost use Rattle.data_names.specs.Items.{AreDataItems};
@@ -6,26 +7,32 @@ ghost use Rattle.data_names.specs.Parts.{screen_entries};
 ghost use Rattle.data_names.specs.Seen.{seen_item};
 ghost use Rattle.data_names.specs.Table.{IsTable, items_of};
 ghost use Rattle.front_rules.specs.Descriptions.{AreDescriptions};
-ghost use Rattle.front_rules.specs.SeenScreens.{seen_screen, AreKnownScreens};
-ghost use Rattle.front_rules.specs.Faults.{front_faults, IsBest};
-ghost use Rattle.front_rules.specs.declared.fault.Fault.{Fault};
+ghost use Rattle.entry_clauses.specs.SeenScreens.{seen_screen, AreKnownScreens};
+ghost use Rattle.name_rules.specs.Faults.{IsBest};
+ghost use Rattle.name_rules.specs.declared.fault.Fault.{Fault};
+ghost use Rattle.procedure_rules.specs.Performed.{AreCycleLines};
+ghost use Rattle.procedure_rules.specs.Faults.{program_faults};
 ghost use Rattle.cobol_checker.specs.declared.fault.CheckFault.TheVariants as faults;
 ghost use Rattle.cobol_checker.specs.Outcome.{IsInProfile, IsRefused};
 ghost use Rattle.cobol_checker.specs.Judged.{IsFaultless, IsKept, IsJudged};
 ghost use Rattle.data_layout.specs.Outcome.{IsLayoutOf};
 ghost use Rattle.data_layout.specs.declared.fault.LayoutFault.{LayoutFault};
 ghost use Rattle.cobol_checker.specs.Seen.{seen_checked};
+ghost use Rattle.opening_storage.specs.Opening.{IsOpeningOf};
 ghost use Rattle.screen_layout.specs.Outcome.{AreScreensOf};
+ghost use Rattle.screen_layout.specs.declared.fault.ScreenFault.{ScreenFault};
 
 use crate::CheckFault;
 use crate::shapes::shapes_of;
-use cob_base::{Front, Items, NoMemory, Program};
+use cob_base::{ByteText, Front, Items, NoMemory, Program};
 use data_layout::{Described, Layout, LayoutFault, Row, gather, lay_out};
-use data_names::{KnownItem, Names, Table, facts_of, known_items, screen_entries};
-use front_rules::{
-    Descriptions, Fault, Faults, KnownScreen, least, note_front_faults, screen_items,
-};
-use screen_layout::{ScreenPlan, lay_screens};
+use data_names::{KnownItem, Names, Pairs, Table, facts_of, known_items, screen_entries};
+use entry_clauses::{KnownScreen, screen_items};
+use front_rules::{Descriptions, note_front_faults};
+use name_rules::{Fault, Faults, least};
+use opening_storage::opening;
+use procedure_rules::note_procedure_faults;
+use screen_layout::{ScreenFault, ScreenPlan, lay_screens};
 use sharing_table::Shape;
 use std::alloc::Global;
 
@@ -66,9 +73,17 @@ impl Checked {
     {
         self.shapes.as_slice()
     }
+
+    /// The bytes of storage before the first statement.
+    pub fn opening(&self, alloc: Global) -> Result<ByteText, NoMemory>
+        requires { IsInProfile (seen_checked self.now) }
+        ensures { IfOk result (λ bytes. IsOpeningOf self.now.program.front self.now.layout bytes) }
+    {
+        opening(alloc, &self.program.front, &self.layout)
+    }
 }
 
-/// What the judging of a front comes to.
+/// What the judging of a program comes to.
 enum Verdict {
     /// No condition fails, and these are the shapes of its files.
     Kept(Items<Shape>),
@@ -76,101 +91,104 @@ enum Verdict {
     Refused(Fault),
 }
 
-/// The least fault of a front with these items and screens.
+/// The least fault of a program with these items and screens.
 fn least_fault(
     alloc: Global,
-    front: &Front,
+    program: &Program,
     table: &Table,
     known: &Descriptions,
     screens: &[KnownScreen],
 ) -> Result<Option<Fault>, NoMemory>
     requires table { IsTable table.now }
-    requires items { AreDataItems front.now (items_of table.now) }
-    requires known { AreDescriptions front.now (items_of table.now) known.now }
-    requires screens { AreKnownScreens (screen_entries front.now) screens.now }
-    ensures { IfOk result (λ best. IsBest (front_faults front.now (items_of table.now) (map seen_screen screens.now)) best) }
+    requires items { AreDataItems program.now.front (items_of table.now) }
+    requires known { AreDescriptions program.now.front (items_of table.now) known.now }
+    requires screens { AreKnownScreens (screen_entries program.now.front) screens.now }
+    ensures { IfOk result (λ best. (cycles : List Line) × AreCycleLines program.now.paragraphs cycles × IsBest (program_faults program.now (items_of table.now) (map seen_screen screens.now) cycles) best) }
 {
     let mut faults = Faults {
         found: Vec::new(alloc),
     };
-    note_front_faults(alloc, &mut faults, front, table, known, screens)?;
+    note_front_faults(alloc, &mut faults, &program.front, table, known, screens)?;
+    note_procedure_faults(alloc, &mut faults, program, table, known)?;
     Ok(least(faults.found.as_slice()))
 }
 
-/// Judges a front with these items and screens.
+/// Judges a program with these items and screens.
 fn judge_all(
     alloc: Global,
-    front: &Front,
+    program: &Program,
     table: &Table,
     known: &Descriptions,
     screens: &[KnownScreen],
 ) -> Result<Verdict, NoMemory>
     requires table { IsTable table.now }
-    requires items { AreDataItems front.now (items_of table.now) }
-    requires known { AreDescriptions front.now (items_of table.now) known.now }
-    requires screens { AreKnownScreens (screen_entries front.now) screens.now }
-    ensures { IfOk result (λ verdict. IsJudged front.now verdict) }
+    requires items { AreDataItems program.now.front (items_of table.now) }
+    requires known { AreDescriptions program.now.front (items_of table.now) known.now }
+    requires screens { AreKnownScreens (screen_entries program.now.front) screens.now }
+    ensures { IfOk result (λ verdict. IsJudged program.now verdict) }
 {
-    match least_fault(alloc, front, table, known, screens)? {
+    match least_fault(alloc, program, table, known, screens)? {
         Some(fault) => Ok(Verdict::Refused(fault)),
-        None => Ok(Verdict::Kept(shapes_of(alloc, front, known, table)?)),
+        None => Ok(Verdict::Kept(shapes_of(alloc, &program.front, known, table)?)),
     }
 }
 
-/// Judges a front with these items.
-fn judge_table(alloc: Global, front: &Front, table: &Table) -> Result<Verdict, NoMemory>
+/// Judges a program with these items.
+fn judge_table(alloc: Global, program: &Program, table: &Table) -> Result<Verdict, NoMemory>
     requires table { IsTable table.now }
-    requires items { AreDataItems front.now (items_of table.now) }
-    ensures { IfOk result (λ verdict. IsJudged front.now verdict) }
+    requires items { AreDataItems program.now.front (items_of table.now) }
+    ensures { IfOk result (λ verdict. IsJudged program.now verdict) }
 {
-    let known = Descriptions::of(alloc, front, table.items)?;
-    let screens = screen_items(alloc, screen_entries(front))?;
-    judge_all(alloc, front, table, &known, screens.as_slice())
+    let known = Descriptions::of(alloc, &program.front, table.items)?;
+    let screens = screen_items(alloc, screen_entries(&program.front))?;
+    judge_all(alloc, program, table, &known, screens.as_slice())
 }
 
-/// Judges a front with these items, whose rows these are.
+/// Judges a program with these items, whose rows these are.
 fn judge_items(
     alloc: Global,
-    front: &Front,
+    program: &Program,
     items: &[KnownItem],
     rows: &[Row],
 ) -> Result<Verdict, NoMemory>
-    requires items { AreDataItems front.now (map seen_item items.now) }
+    requires items { AreDataItems program.now.front (map seen_item items.now) }
     requires rows { map (λ item. item.row) items.now ≡ rows.now }
-    ensures { IfOk result (λ verdict. IsJudged front.now verdict) }
+    ensures { IfOk result (λ verdict. IsJudged program.now verdict) }
 {
     let facts = facts_of(alloc, items, rows)?;
     let names = Names::of(alloc, items)?;
+    let pairs = Pairs::of(alloc, items, facts.as_slice())?;
     let table = Table {
         items,
         facts: facts.as_slice(),
         names: &names,
+        pairs: &pairs,
     };
-    judge_table(alloc, front, &table)
+    judge_table(alloc, program, &table)
 }
 
-/// Judges a front, whose rows and texts these are.
+/// Judges a program, whose rows and texts these are.
 fn judge_rows(
     alloc: Global,
-    front: &Front,
+    program: &Program,
     rows: &[Row],
     texts: &[Described],
 ) -> Result<Verdict, NoMemory>
-    requires { AreAllRows 0 (sections front.now) rows.now texts.now }
-    ensures { IfOk result (λ verdict. IsJudged front.now verdict) }
+    requires { AreAllRows 0 (sections program.now.front) rows.now texts.now }
+    ensures { IfOk result (λ verdict. IsJudged program.now verdict) }
 {
-    let items = known_items(alloc, front, rows, texts)?;
-    judge_items(alloc, front, items.as_slice(), rows)
+    let items = known_items(alloc, &program.front, rows, texts)?;
+    judge_items(alloc, program, items.as_slice(), rows)
 }
 
-/// Judges a front.
-fn judge(alloc: Global, front: &Front) -> Result<Verdict, NoMemory>
-    ensures { IfOk result (λ verdict. IsJudged front.now verdict) }
+/// Judges a program.
+fn judge(alloc: Global, program: &Program) -> Result<Verdict, NoMemory>
+    ensures { IfOk result (λ verdict. IsJudged program.now verdict) }
 {
-    let gathered = gather(alloc, front)?;
+    let gathered = gather(alloc, &program.front)?;
     judge_rows(
         alloc,
-        front,
+        program,
         gathered.rows.as_slice(),
         gathered.texts.as_slice(),
     )
@@ -196,19 +214,26 @@ fn no_memory(_fault: LayoutFault) -> NoMemory
 
 /// The plans of the screens of a front without faults.
 fn screens_of(alloc: Global, front: &Front, layout: &Layout) -> Result<Items<ScreenPlan>, NoMemory>
-    requires { IsLayoutOf (sections front.now) layout.now }
+    requires faultless { IsFaultless front.now }
+    requires laid_out { IsLayoutOf (sections front.now) layout.now }
     ensures { IfOk result (λ screens. AreScreensOf layout.now (screen_entries front.now) screens) }
 {
-    // A front without faults has no fault of its screens. This is tested and not proved, so each fault counts as want of memory here.
     match lay_screens(alloc, front, layout) {
         Ok(screens) => Ok(screens),
-        Err(_) => Err(NoMemory),
+        Err(fault) => Err(no_memory_of_screens(fault)),
     }
+}
+
+/// Of the screens of a front without faults this is the one fault.
+fn no_memory_of_screens(_fault: ScreenFault) -> NoMemory
+    requires { _fault ≡ ScreenFault.NoMemory }
+{
+    NoMemory
 }
 
 /// A program that keeps every rule, with these shapes of its files.
 fn with_layout(alloc: Global, program: Program, shapes: Items<Shape>) -> Result<Checked, NoMemory>
-    requires { IsKept program.front shapes }
+    requires { IsKept program shapes }
     ensures { IfOk result (λ checked. (checked.program ≡ program) × IsInProfile (seen_checked checked)) }
 {
     let layout = layout_of(alloc, &program.front)?;
@@ -227,7 +252,7 @@ pub fn check(alloc: Global, program: Program) -> Result<Checked, CheckFault>
     ensures checked { IfOk result (λ checked. (checked.program ≡ program) × IsInProfile (seen_checked checked)) }
     ensures refused { IfErr result (λ fault. (fault ≡ faults.NoMemory) ⊎ ((least : Fault) × (fault ≡ faults.Reason least.line least.reason) × IsRefused program least)) }
 {
-    match judge(alloc, &program.front) {
+    match judge(alloc, &program) {
         Err(NoMemory) => Err(CheckFault::NoMemory),
         Ok(Verdict::Refused(fault)) => Err(CheckFault::Reason {
             line: fault.line,

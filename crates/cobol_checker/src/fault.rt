@@ -1,12 +1,15 @@
 use cob_base::{Line, NoMemory};
 use std::alloc::{AllocError, AllocFailed};
+use thiserror::Error;
 
 /// Why a program is refused.
-#[derive(Clone, Copy, Debug, PartialEq, Eq)]
+#[derive(Clone, Copy, Debug, PartialEq, Eq, Error)]
 pub enum CheckFault {
     /// The least fault, by line, then by reason.
+    #[error("line {}: rule {reason} is broken", .line.0)]
     Reason { line: Line, reason: u8 },
     /// Memory ran out.
+    #[error("memory ran out")]
     NoMemory,
 }
 

@@ -1,6 +1,6 @@
 ghost use Rattle.std.specs.Prelude.{◌≡◌};
 ghost use Rattle.cob_base.specs.declared.paragraphs.Program.{Program};
-ghost use Rattle.front_rules.specs.declared.fault.Fault.{Fault};
+ghost use Rattle.name_rules.specs.declared.fault.Fault.{Fault};
 ghost use Rattle.cobol_checker.specs.Outcome.{CheckedValue, IsInProfile, IsRefused};
 
 /// A program is in the profile or refused, never both, and it is refused for one fault.

@@ -20,7 +20,7 @@ use Rattle.division_parser.specs.declared.fronts.FrontRead.{FrontRead}
 use Rattle.cobol_cmd.specs.Checking.{IsProgram, IsNoProgram}
 use Rattle.cobol_cmd.specs.Programs.{HasProgram}
 use Rattle.cob_base.specs.declared.paragraphs.Program.{Program}
-use Rattle.front_rules.specs.declared.fault.Fault.{Fault}
+use Rattle.name_rules.specs.declared.fault.Fault.{Fault}
 use Rattle.cobol_checker.specs.Outcome.{IsRefused}
 use Rattle.cobol_checker.specs.declared.fault.CheckFault.{CheckFault}
 use Rattle.cobol_checker.specs.declared.fault.CheckFault.TheVariants as checks

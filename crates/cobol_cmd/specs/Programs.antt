@@ -16,7 +16,7 @@ use Rattle.cobol_cmd.specs.declared.command.Action.TheVariants.{Show, Check}
 use Rattle.cobol_cmd.specs.declared.fault.ProgramFault.{ProgramFault}
 use Rattle.cobol_cmd.specs.declared.fault.ProgramFault.TheVariants.{Lines, Words, Entries, Nesting, Profile, NoMemory}
 use Rattle.cobol_cmd.specs.Small.{Small}
-use Rattle.cobol_cmd.specs.Report.{small_report, program_read}
+use Rattle.cobol_cmd.specs.Report.{small_report, in_profile}
 use Rattle.cobol_cmd.specs.Checking.{IsProgram, IsNoProgram}
 use Rattle.cobol_checker.specs.Outcome.{CheckedValue, IsInProfile, IsRefused}
 
@@ -76,7 +76,7 @@ IsCheckFault entries _ = ⊥
 -- what a command prints for a text
 abbrev pub Prints : Action → List ℕ → List ℕ → Type 0
 Prints Show text output = HasReport text output
-Prints Check text output = (checked : CheckedValue) × HasProgram text checked.program × IsInProfile checked × (output ≡ program_read)
+Prints Check text output = (checked : CheckedValue) × HasProgram text checked.program × IsInProfile checked × (output ≡ in_profile)
 
 -- the fault for which a command refuses a text: the first of its lines, else the first of its words, else that of its entries
 abbrev pub Fails : Action → ProgramFault → List ℕ → Type 0

@@ -24,5 +24,5 @@ small_report line column bytes =
     ++ (screen_heading_line 1 line (min (column + length bytes) 80) ++ screen_lines 24 (screen_bytes line column bytes))
 
 -- what `check` prints
-abbrev pub program_read : List ℕ
-program_read = codes "program read\n"
+abbrev pub in_profile : List ℕ
+in_profile = codes "in profile\n"

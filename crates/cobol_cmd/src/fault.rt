@@ -3,22 +3,29 @@ ghost use Rattle.cobol_cmd.specs.Lines.{text_fault_line, text_fault_reason, word
 
 use cob_base::{Line, TextFault};
 use cobol_words::WordFault;
+use thiserror::Error;
 
 /// Why a program is refused: the pass that refuses it, the place and the reason.
-#[derive(Clone, Copy, Debug, PartialEq, Eq)]
+#[derive(Clone, Copy, Debug, PartialEq, Eq, Error)]
 pub enum ProgramFault {
     /// A line of the text is at fault.
+    #[error(transparent)]
     Lines(TextFault),
     /// The lines are good, and a word is at fault.
+    #[error(transparent)]
     Words(WordFault),
     /// The words are good, and an entry that begins in this line is at fault, or the last word or entry does.
+    #[error("line {}: an entry that does not fit, or after which more must follow", .0.0)]
     Entries(Line),
     /// The words are good, and an entry that begins in this line nests statements and parentheses too deep.
+    #[error("line {}: statements and parentheses nest too deep", .0.0)]
     Nesting(Line),
     /// The entries are a program, which breaks the rule of this number, from 1 to 13, in an entry, statement or paragraph header
     /// that begins in this line. Of several faults the least is told, by line, then by reason.
+    #[error("line {}: rule {reason} is broken", .line.0)]
     Profile { line: Line, reason: u8 },
     /// Memory ran out. No other variant holds a want of memory.
+    #[error("memory ran out")]
     NoMemory,
 }
 

@@ -153,7 +153,7 @@ fn check(alloc: Global, text: &[u8]) -> Result<Vec<u8>, ProgramFault>
     ensures fault { IfErr result (λ fault. FailsOrNoMemory Check fault text.now) }
 {
     read_program(alloc, text)?;
-    match Vec::from_slice(alloc, b"program read\n") {
+    match Vec::from_slice(alloc, b"in profile\n") {
         Ok(output) => Ok(output),
         Err(_) => Err(ProgramFault::NoMemory),
     }

@@ -1,4 +1,4 @@
-use crate::cobol_plain;
+use crate::{cobol_plain, read_program};
 use cob_base::{ByteText, NoMemory};
 use outside_world::{Held, MemoryShelf, MemorySink};
 use std::alloc::Global;
@@ -240,11 +240,11 @@ fn small_programs_go_by_their_words(rt: HostRuntime) -> Result<(), Fail> {
 const CHECKED: [(&str, &str); 13] = [
     (
         "IDENTIFICATION DIVISION.\nPROGRAM-ID. A.\nPROCEDURE DIVISION.\nSTOP RUN.",
-        "program read\n",
+        "in profile\n",
     ),
     (
         "id division. program-id. a. data division. working-storage section.\n01 x pic 9. procedure division. stop run.",
-        "program read\n",
+        "in profile\n",
     ),
     ("", "refused program other.cob entries 1\n"),
     (
@@ -253,7 +253,7 @@ const CHECKED: [(&str, &str); 13] = [
     ),
     (
         "ID DIVISION. PROGRAM-ID. A.\nPROCEDURE DIVISION.",
-        "program read\n",
+        "in profile\n",
     ),
     (
         "ID DIVISION. PROGRAM-ID. A.\nPROCEDURE DIVISION.\nSTOP RUN.\nEND PROGRAM A.\nSTOP RUN.",
@@ -302,7 +302,7 @@ fn programs_are_checked(rt: HostRuntime) -> Result<(), Fail> {
         assert_eq!(rt; outcome.taken.as_slice(), line.as_bytes(), "{text}");
     }
     let hello = done(alloc, &["check", "HELLO.cob"], b"", &[], &[], 4096)?;
-    assert_eq!(rt; hello.taken.as_slice(), b"program read\n".as_slice());
+    assert_eq!(rt; hello.taken.as_slice(), b"in profile\n".as_slice());
     Ok(())
 }
 
@@ -321,5 +321,72 @@ fn a_failed_read_or_output_is_told(rt: HostRuntime) -> Result<(), Fail> {
     let line = done(alloc, &["show", "none"], b"", &[], &[2], 3)?;
     assert_eq!(rt; line.status, 5);
     assert_eq!(rt; line.taken.as_slice(), b"mis".as_slice());
+    Ok(())
+}
+
+/// A file with three keys, of which the clauses name the later alternate first, and a screen with two items.
+const DESK: &[u8] = b"       >>SOURCE FORMAT IS FREE
+IDENTIFICATION DIVISION.
+PROGRAM-ID. DESK.
+ENVIRONMENT DIVISION.
+INPUT-OUTPUT SECTION.
+FILE-CONTROL.
+    SELECT STOCK ASSIGN TO STOCK ORGANIZATION IS INDEXED
+        RECORD KEY IS ST-ID
+        ALTERNATE RECORD KEY IS ST-PLACE
+        ALTERNATE RECORD KEY IS ST-NAME WITH DUPLICATES.
+DATA DIVISION.
+FILE SECTION.
+FD STOCK.
+01 ST-REC.
+    05 ST-ID PIC X(4).
+    05 ST-NAME PIC X(20).
+    05 ST-PLACE PIC 9(3).
+    05 ST-QTY PIC S9(5) SIGN IS LEADING SEPARATE.
+WORKING-STORAGE SECTION.
+77 WS-TAKE PIC 9(3).
+SCREEN SECTION.
+01 DESK-SCREEN.
+    05 LINE 2 COLUMN 3 VALUE \"TAKE\".
+    05 COLUMN PLUS 2 PIC ZZ9 USING WS-TAKE.
+PROCEDURE DIVISION.
+    DISPLAY DESK-SCREEN.
+FIRST-PART.
+    STOP RUN.
+";
+
+#[test]
+fn a_checked_program_lends_its_parts(rt: HostRuntime) -> Result<(), Fail> {
+    let checked = read_program(rt.alloc(), DESK)?;
+    assert_eq!(rt; checked.program().paragraphs.as_slice().len(), 2);
+    // 4, 20, 3, and 5 digits with a sign of their own; behind the record 3 bytes of working storage.
+    assert_eq!(rt; checked.layout().total, 36);
+    assert_eq!(rt; checked.layout().items.as_slice().len(), 6);
+    let screens = checked.screens();
+    assert_eq!(rt; screens.len(), 1);
+    assert_eq!(rt; screens[0].name.as_bytes(), b"DESK-SCREEN".as_slice());
+    assert_eq!(rt; screens[0].items.as_slice().len(), 2);
+    let shapes = checked.shapes();
+    assert_eq!(rt; shapes.len(), 1);
+    assert_eq!(rt; shapes[0].length, 33);
+    assert_eq!(rt; (shapes[0].prime.offset, shapes[0].prime.length), (0, 4));
+    let alternates = shapes[0].alternates.as_slice();
+    assert_eq!(rt; alternates.len(), 2);
+    assert_eq!(rt;
+        (
+            alternates[0].offset,
+            alternates[0].length,
+            alternates[0].duplicates
+        ),
+        (4, 20, true)
+    );
+    assert_eq!(rt;
+        (
+            alternates[1].offset,
+            alternates[1].length,
+            alternates[1].duplicates
+        ),
+        (24, 3, false)
+    );
     Ok(())
 }

@@ -1,8 +1,8 @@
-use Rattle.std.proofs.Common.{◌≡◌, sym, ap, refl, subst, [], ◌++◌, List, append-nil, drop}
+use Rattle.std.proofs.Common.{◌≡◌, sym, refl, subst, [], List, append-nil, drop}
 use Rattle.std.proofs.lemmas.List.{drop_all}
 use Rattle.cob_base.specs.declared.file_entries.FileClause.{FileClause}
 use Rattle.data_names.specs.Table.{items_of}
-use Rattle.front_rules.specs.Clauses.{alternates}
+use Rattle.entry_clauses.specs.Clauses.{alternates}
 use Rattle.cobol_checker.specs.Shapes.{AreKeyPlaces}
 use Rattle.cobol_checker.proofs.shapes.alternates.Goals as goal
 

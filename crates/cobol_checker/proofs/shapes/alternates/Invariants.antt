@@ -2,7 +2,7 @@
 use Rattle.std.proofs.Common.{◌++◌, List, drop}
 use Rattle.sharing_table.specs.declared.shape.KeyPlace.{KeyPlace}
 use Rattle.data_names.specs.Table.{items_of}
-use Rattle.front_rules.specs.Clauses.{alternates}
+use Rattle.entry_clauses.specs.Clauses.{alternates}
 use Rattle.cobol_checker.specs.Sound.{AreKeysIn}
 use Rattle.cobol_checker.specs.Shapes.{AreKeyPlaces}
 use Rattle.cobol_checker.proofs.shapes.alternates.Given as goal

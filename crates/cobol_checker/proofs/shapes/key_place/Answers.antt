@@ -1,4 +1,4 @@
-use Rattle.std.proofs.Common.{◌≡◌, ◌∙◌, sym, subst, Some, None}
+use Rattle.std.proofs.Common.{◌≡◌, subst, None}
 use Rattle.data_names.specs.Items.{DataItem}
 use Rattle.data_names.specs.Spots.{Spot}
 use Rattle.data_names.specs.References.{found}

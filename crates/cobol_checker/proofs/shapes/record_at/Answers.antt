@@ -1,6 +1,4 @@
-use Rattle.std.proofs.Common.{◌≡◌, ◌∙◌, sym, ap, Some, None}
 use Rattle.data_names.specs.Table.{items_of}
-use Rattle.front_rules.specs.Descriptions.{IsDescriptionOf}
 use Rattle.cobol_checker.proofs.RecordOf.{no_description, no_record, record_here}
 use Rattle.cobol_checker.proofs.shapes.record_at.Goals as goal
 

@@ -1,4 +1,4 @@
-use Rattle.std.proofs.Common.{◌≡◌, sym, refl, subst, [], ◌++◌, List, append-nil, drop}
+use Rattle.std.proofs.Common.{◌≡◌, sym, refl, subst, [], List, append-nil, drop}
 use Rattle.std.proofs.lemmas.List.{drop_all}
 use Rattle.cob_base.specs.declared.file_entries.FileEntry.{FileEntry}
 use Rattle.data_names.specs.Table.{items_of}

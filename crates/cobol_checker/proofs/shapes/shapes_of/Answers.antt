@@ -1,5 +1,4 @@
 use Rattle.data_names.specs.Table.{items_of}
-use Rattle.data_names.specs.Parts.{files}
 use Rattle.cobol_checker.proofs.SoundFiles.{sound_files}
 use Rattle.std.proofs.Common.{sym, subst, List}
 use Rattle.cob_base.specs.declared.file_entries.FileEntry.{FileEntry}
