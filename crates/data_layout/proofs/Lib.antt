@@ -6,3 +6,6 @@ pub mod Gatherings
 pub mod JudgedRows
 pub mod Places
 pub mod PlacedRows
+pub mod Numbers
+pub mod TableBytes
+pub mod Occurrences

@@ -7,6 +7,7 @@ use Rattle.data_layout.specs.declared.row.Row.{Row}
 use Rattle.data_layout.specs.declared.row.Described.{Described}
 use Rattle.data_layout.specs.declared.layout.Item.{Item}
 use Rattle.data_layout.specs.declared.layout.Layout.{Layout}
+use Rattle.data_layout.specs.Occurrences.{AreTablesApart, AreOccurrencesInside}
 use Rattle.data_layout.specs.Storage.{goes_on, groups, members, own_size, storage, is_repeated, last_of}
 
 -- the number of the innermost of groups
@@ -62,8 +63,10 @@ pub record IsInside (total : ℕ) (item : Item) : Type 0 where
   pub within : item.offset + item.size ≤ total
   pub sized : item.picture.size ≡ item.size
 
--- an item for each row, and all bytes; each item lies within them
+-- an item for each row, and all bytes; no OCCURS stands inside another; each item lies within all bytes in each of its occurrences
 pub record IsLayout (rows : List Row) (texts : List Described) (layout : Layout) : Type 0 where
   pub items : AreItems [] rows texts layout.items
   pub total : layout.total ≡ storage rows
   pub inside : All (IsInside layout.total) layout.items
+  pub apart : AreTablesApart layout
+  pub each : AreOccurrencesInside layout

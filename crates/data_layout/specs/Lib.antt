@@ -5,6 +5,7 @@ pub mod Best
 pub mod Judge
 pub mod Gathered
 pub mod Faults
+pub mod Occurrences
 pub mod Layout
 pub mod Outcome
 pub mod Placed

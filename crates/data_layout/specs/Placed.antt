@@ -1,5 +1,5 @@
 -- Items that were placed so far.
-use Rattle.std.specs.Prelude.{◌≡◌, ◌+◌, ◌≤◌, true, false, List, [], ◌∷◌, ◌++◌, sum_by, is_some, Some}
+use Rattle.std.specs.Prelude.{◌≡◌, ℕ, ◌+◌, ◌≤◌, true, false, List, [], ◌∷◌, ◌++◌, sum_by, is_some, Some}
 use Rattle.picture_rule.specs.Picture.{PictureValue}
 use Rattle.std.specs.List.{list_all}
 use Rattle.data_layout.specs.declared.row.Row.{Row}
@@ -32,3 +32,8 @@ abbrev pub AreMatched : List Row → List Described → Type 0
 AreMatched [] texts = texts ≡ []
 AreMatched (row ∷ rows) [] = ⊥
 AreMatched (row ∷ rows) (text ∷ texts) = IsMatched row text × AreMatched rows texts
+
+-- rows are numbered in order from here on
+abbrev pub NumberedFrom : ℕ → List Row → Type 0
+NumberedFrom n [] = Unit {0}
+NumberedFrom n (row ∷ rows) = (row.number ≡ n) × NumberedFrom (n + 1) rows

@@ -3,7 +3,7 @@ ghost use Rattle.data_layout.specs.Storage.{storage, members, last_of};
 ghost use Rattle.data_layout.specs.Faults.{faults_after, is_in_range};
 ghost use Rattle.data_layout.specs.Layout.{size_of, IsItemPicture, IsItem, IsInside, IsLayout, number_of, occurs_or_zero};
 ghost use Rattle.data_layout.specs.Walk.{counted};
-ghost use Rattle.data_layout.specs.Placed.{IsPlacing, CanBePlaced, AreMatched};
+ghost use Rattle.data_layout.specs.Placed.{IsPlacing, CanBePlaced, AreMatched, NumberedFrom};
 ghost use Rattle.data_layout.specs.declared.row.Row.{Row};
 
 use crate::layout::{Item, Layout};
@@ -114,6 +114,7 @@ fn picture_of_item(alloc: Global, row: &Row, size: u32, given: Option<Picture>) 
 pub fn place(alloc: Global, rows: &[Row], texts: Vec<Described>) -> Result<Layout, NoMemory>
     requires matched { AreMatched rows.now texts.items }
     requires faultless { faults_after [] rows.now ≡ [] }
+    requires numbered { NumberedFrom 0 rows.now }
     ensures { IfOk result (λ layout. IsLayout rows.now texts.items layout) }
 {
     let mut items = Items::new(alloc);

@@ -14,8 +14,10 @@ use Rattle.std.specs.List.{list_any}
 use Rattle.std.specs.Str.{bytes_eq}
 use Rattle.std.specs.Cmp.Lexicographic.{bytes_decides, nat_list_eq_equiv}
 use Rattle.std.proofs.lemmas.Bool.{false≢true}
-use Rattle.data_names.specs.Names.{numbers_from, is_under, in_small}
-use Rattle.data_names.specs.Pairs.{IsCover, pair_key, is_pair, is_in, is_under_pair}
+use Rattle.data_names.specs.declared.asked.AskedPairs.{AskedPairs}
+use Rattle.data_names.specs.Asked.{is_asked, is_name_asked}
+use Rattle.data_names.specs.Names.{numbers_from, is_under, in_small, pair_key}
+use Rattle.data_names.specs.Pairs.{IsCover, is_pair, is_in, is_under_pair, is_kept}
 
 -- those that pass, with their numbers
 abbrev pub pairs_from : {A : Type 0} → ℕ → (A → Bool) → List A → List (ℕ × A)
@@ -250,11 +252,28 @@ under_pair name qualifiers i d (Some other) groups l h = both (same_name other n
     both true s k = called_pair name other (get_or qualifiers i d) groups s (each_called qualifiers groups i d l k)
     both false s k = absurd (false≢true k)
 
--- the items that match are among those under the pair of the name and one of the qualifiers
-pub paired_cover : (items : List DataItem) (name : List ℕ) (qualifiers : List (List ℕ)) (i : ℕ) (d : List ℕ) (numbers : List ℕ) → i < length qualifiers
-    → numbers ≡ numbers_from 0 (is_under_pair (pair_key name (get_or qualifiers i d))) (spots items) → IsCover items name qualifiers numbers
-paired_cover items name qualifiers i d numbers l e = record {
-  test = is_under_pair (pair_key name (get_or qualifiers i d));
+-- where a name is asked for, it is under each spelling of it
+asked_called : (asked : AskedPairs) (name : List ℕ) (called : Option (List ℕ)) (rest : Bool) → is_asked asked (in_small name) ≡ true → (is_called name called && rest) ≡ true → is_name_asked asked called ≡ true
+asked_called asked name None rest a h = absurd (false≢true h)
+asked_called asked name (Some other) rest a h = spelled (same_name other name) refl h
+  where
+    spelled : (b : Bool) → same_name other name ≡ b → (b && rest) ≡ true → is_asked asked (in_small other) ≡ true
+    spelled true s k = ap (is_asked asked) ((bytes_decides (in_small other) (in_small name)).0 s) ∙ a
+    spelled false s k = absurd (false≢true k)
+
+pub three_true : (a b c : Bool) → a ≡ true → b ≡ true → c ≡ true → (a && (b && c)) ≡ true
+three_true true true c d e f = f
+three_true true false c d e f = absurd (false≢true e)
+three_true false b c d e f = absurd (false≢true d)
+
+-- the items that match are among those under the pair of the name and one of the qualifiers, where both are asked for
+pub paired_cover : (items : List DataItem) (asked : AskedPairs) (name : List ℕ) (qualifiers : List (List ℕ)) (i : ℕ) (d : List ℕ) (numbers : List ℕ) → i < length qualifiers → is_asked asked (in_small name) ≡ true
+    → is_asked asked (pair_key name (get_or qualifiers i d)) ≡ true → numbers ≡ numbers_from 0 (is_kept asked (pair_key name (get_or qualifiers i d))) (spots items) → IsCover items name qualifiers numbers
+paired_cover items asked name qualifiers i d numbers l n p e = record {
+  test = is_kept asked (pair_key name (get_or qualifiers i d));
   numbers_are = e;
-  covers = λ spot h. under_pair name qualifiers i d spot.item.text.name (reverse (names_around spot)) l h;
+  covers = λ spot h.
+      three_true (is_name_asked asked spot.item.text.name) (is_under_pair (pair_key name (get_or qualifiers i d)) spot) (is_asked asked (pair_key name (get_or qualifiers i d)))
+      (asked_called asked name spot.item.text.name (is_qualified qualifiers (reverse (names_around spot))) n h)
+      (under_pair name qualifiers i d spot.item.text.name (reverse (names_around spot)) l h) p;
 }

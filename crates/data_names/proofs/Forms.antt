@@ -1,12 +1,13 @@
 -- A text is one picture at most.
 use Rattle.std.proofs.Common.{◌≡◌, ℕ, zero, suc, ◌+◌, ◌<◌, ◌⊎◌, inl, inr, Bool, true, false, List, [], ◌∷◌, ◌++◌, length, append-nil, replicate, refl, sym, ◌∙◌, ap, subst, arith}
-use Rattle.std.specs.Prelude.{codes, count_by, nat_eq, if◌then◌else◌}
-use Rattle.std.proofs.lemmas.Bool.{and_parts}
+use Rattle.std.specs.Prelude.{◌==◌, codes, count_by, nat_eq, if◌then◌else◌}
+use Rattle.std.proofs.lemmas.Bool.{and_parts, false≢true}
 use Rattle.picture_rule.proofs.Extends.{count-append}
-use Rattle.picture_rule.specs.Picture.{Form, HasForm, is_among, AllAmong, is_digit_mark, OneOf, endings, IsNumeric, IsEdited}
-use Rattle.picture_rule.specs.Text.{Spells}
+use Rattle.picture_rule.specs.Picture.{Form, HasForm, PictureValue, is_among, AllAmong, is_digit_mark, OneOf, endings, IsNumeric, IsEdited}
+use Rattle.picture_rule.specs.Text.{Spells, IsWhole, picture_of}
 use Rattle.picture_rule.specs.declared.kind.PictureKind.TheVariants.{Numeric, Edited}
 use Rattle.picture_rule.proofs.Fronts.{writes_once}
+use Rattle.picture_rule.proofs.Results.{zero_is}
 use Rattle.picture_rule.proofs.EditedParts.{nine_digits, after_digits}
 use Rattle.picture_rule.proofs.Apart.{Among, among, plain_marks, before_marks, currency_marks, body_marks, after_marks, letters_numeric, letters_edited, numeric_edited}
 
@@ -148,3 +149,17 @@ pub spells_once : (text marks other : List ℕ) (form second : Form) → Spells 
 spells_once text marks other form second one two =
     let same : marks ≡ other = writes_once one.0 two.0 in
     (same, form-once other form second (subst (λ m. HasForm m form) same one.1) two.1)
+
+-- ---- whether there are decimals
+
+-- those of a picture are those of the text that it was read from
+pub whole_read : (text : List ℕ) (p : PictureValue) (marks : List ℕ) (form : Form) → Spells text marks form → p ≡ picture_of marks form → IsWhole text (p.decimals == 0)
+whole_read text p marks form s e = (
+  λ zero. (marks, form, s, sym (ap (λ q. q.decimals) e) ∙ zero_is p.decimals zero),
+  λ spelled. (let same : form ≡ spelled.1 = (spells_once text marks spelled.0 form spelled.1 s spelled.2).1 in
+      let none : p.decimals ≡ 0 = ap (λ q. q.decimals) e ∙ ap (λ f. f.decimals) same ∙ spelled.3 in rw none refl),
+)
+
+-- a text that spells nothing has none
+pub whole_unread : (text : List ℕ) → ((marks : List ℕ) (form : Form) → Spells text marks form → ⊥) → IsWhole text false
+whole_unread text none = (λ h. absurd (false≢true h), λ spelled. absurd (none spelled.0 spelled.1 spelled.2))

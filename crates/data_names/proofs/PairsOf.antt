@@ -1,14 +1,17 @@
 -- Numbers of items under the keys of names and groups.
-use Rattle.std.proofs.Common.{◌≡◌, ◌∙◌, refl, ap, sym, arith, ℕ, zero, suc, ◌+◌, ◌<◌, ◌≤◌, ◌==◌, ◌||◌, Bool, true, false, List, [], ◌∷◌, ◌++◌, length, map, take, get_or, Option, Some, None}
+use Rattle.std.proofs.Common.{◌≡◌, ◌∙◌, refl, ap, sym, arith, ℕ, zero, suc, ◌+◌, ◌<◌, ◌≤◌, ◌==◌, ◌||◌, ◌&&◌, Bool, true, false, List, [], ◌∷◌, ◌++◌, length, map, take, get_or, Option, Some, None}
 use Rattle.std.specs.Prelude.{if◌then◌else◌, slice_get}
 use Rattle.std.specs.List.{list_any, last_or}
 use Rattle.std.specs.Str.{bytes_eq}
+use Rattle.std.specs.Cmp.Lexicographic.{bytes_decides}
 use Rattle.std.proofs.lemmas.Bool.Decides.{nat_tests}
 use Rattle.std.proofs.lemmas.List.{take_more, map-append}
 use Rattle.std.proofs.lemmas.List.Folds.{list_any-append}
 use Rattle.std.proofs.lemmas.Option.{slice_get_read}
 use Rattle.data_names.specs.Items.{DataItem}
 use Rattle.data_names.specs.Spots.{Spot, spots, spot_of}
+use Rattle.data_names.specs.declared.asked.AskedPairs.{AskedPairs}
+use Rattle.data_names.specs.Asked.{is_asked}
 use Rattle.data_names.specs.Names.{numbers_from, ends_with, is_number, with_number}
 use Rattle.data_names.specs.Pairs.{is_pair}
 
@@ -17,6 +20,30 @@ pub put_once : (old : List ℕ → List ℕ) (bs cs taken mid new : List ℕ) (n
     → new ≡ (if b then with_number taken n else mid) → new ≡ (if b then with_number (old cs) n else old cs)
 put_once old bs cs taken mid new n true y same t m e = e ∙ ap (λ xs. with_number xs n) (t ∙ ap old (same cs y))
 put_once old bs cs taken mid new n false y same t m e = e ∙ m
+
+-- ---- a number under a key that is asked for
+
+-- a key that is this one is asked for where this one is
+same_asked : (asked : AskedPairs) (key other : List ℕ) (a b : Bool) → is_asked asked key ≡ a → bytes_eq key other ≡ b → (b && is_asked asked other) ≡ (b && a)
+same_asked asked key other a true h e = ap (is_asked asked) (sym ((bytes_decides key other).0 e)) ∙ h
+same_asked asked key other a false h e = refl
+
+none_asked : (b : Bool) → (b && false) ≡ false
+none_asked true = refl
+none_asked false = refl
+
+all_asked : (b : Bool) → (b && true) ≡ b
+all_asked true = refl
+all_asked false = refl
+
+pub not_put : (asked : AskedPairs) (key other old more : List ℕ) → is_asked asked key ≡ false → old ≡ (if bytes_eq key other && is_asked asked other then more else old)
+not_put asked key other old more h =
+    sym (ap (λ b. if b then more else old) (same_asked asked key other false (bytes_eq key other) h refl ∙ none_asked (bytes_eq key other)))
+
+pub put_where_asked : (asked : AskedPairs) (key other old more new : List ℕ) → is_asked asked key ≡ true → new ≡ (if bytes_eq key other then more else old)
+    → new ≡ (if bytes_eq key other && is_asked asked other then more else old)
+put_where_asked asked key other old more new h e =
+    e ∙ sym (ap (λ b. if b then more else old) (same_asked asked key other true (bytes_eq key other) h refl ∙ all_asked (bytes_eq key other)))
 
 -- ---- the groups of one item
 
@@ -39,14 +66,26 @@ group_added true false old cur new n h c e = e ∙ c
 group_added false true old cur new n h c e = e ∙ ap (λ xs. with_number xs n) c ∙ ap (λ t. if t then old else old ++ n ∷ []) h
 group_added false false old cur new n h c e = e ∙ c
 
+-- one more group, under a key that is asked for or not
+pub group_asked : (a b g : Bool) (old cur new : List ℕ) (n : ℕ) → ends_with n old ≡ false → cur ≡ (if a && g then old ++ n ∷ [] else old) → new ≡ (if b && g then with_number cur n else cur)
+    → new ≡ (if (a || (b || false)) && g then old ++ n ∷ [] else old)
+group_asked true true true old cur new n h c e = group_added true true old cur new n h c e
+group_asked true false true old cur new n h c e = group_added true false old cur new n h c e
+group_asked false true true old cur new n h c e = group_added false true old cur new n h c e
+group_asked false false true old cur new n h c e = group_added false false old cur new n h c e
+group_asked true true false old cur new n h c e = e ∙ c
+group_asked true false false old cur new n h c e = e ∙ c
+group_asked false true false old cur new n h c e = e ∙ c
+group_asked false false false old cur new n h c e = e ∙ c
+
 -- one more group of a list
-pub groups_more : {G : Type 0} (see : G → Option (List ℕ)) (key name : List ℕ) (groups : List G) (at : ℕ) (group : G) (old cur new : List ℕ) (n : ℕ) → at < length groups → group ≡ get_or groups at group → ends_with n old ≡ false
-    → cur ≡ (if list_any (is_pair key name) (map see (take at groups)) then old ++ n ∷ [] else old) → new ≡ (if is_pair key name (see group) then with_number cur n else cur)
-    → new ≡ (if list_any (is_pair key name) (map see (take (at + 1) groups)) then old ++ n ∷ [] else old)
-groups_more see key name groups at group old cur new n l g h c e =
-    let more : take (at + 1) groups ≡ take at groups ++ group ∷ [] = take_more groups at group l ∙ ap (λ y. take at groups ++ y ∷ []) (sym g) in
-    group_added (list_any (is_pair key name) (map see (take at groups))) (is_pair key name (see group)) old cur new n h c e
-    ∙ ap (λ b. if b then old ++ n ∷ [] else old)
+pub groups_more : {G : Type 0} (see : G → Option (List ℕ)) (key name : List ℕ) (groups : List G) (at : ℕ) (group : G) (g : Bool) (old cur new : List ℕ) (n : ℕ) → at < length groups → group ≡ get_or groups at group → ends_with n old ≡ false
+    → cur ≡ (if list_any (is_pair key name) (map see (take at groups)) && g then old ++ n ∷ [] else old) → new ≡ (if is_pair key name (see group) && g then with_number cur n else cur)
+    → new ≡ (if list_any (is_pair key name) (map see (take (at + 1) groups)) && g then old ++ n ∷ [] else old)
+groups_more see key name groups at group g old cur new n l e h c d =
+    let more : take (at + 1) groups ≡ take at groups ++ group ∷ [] = take_more groups at group l ∙ ap (λ y. take at groups ++ y ∷ []) (sym e) in
+    group_asked (list_any (is_pair key name) (map see (take at groups))) (is_pair key name (see group)) g old cur new n h c d
+    ∙ ap (λ b. if b && g then old ++ n ∷ [] else old)
     (sym (ap (λ some. list_any (is_pair key name) (map see some)) more ∙ ap (list_any (is_pair key name)) (map-append see (take at groups) (group ∷ []))
     ∙ list_any-append (is_pair key name) (map see (take at groups)) (see group ∷ [])))
 

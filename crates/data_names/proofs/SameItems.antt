@@ -16,7 +16,8 @@ use Rattle.data_layout.specs.declared.row.Spelled.TheVariants as s
 use Rattle.data_layout.specs.declared.row.Described.{Described}
 use Rattle.data_layout.specs.Rows.{picture_text, IsRead, IsRow, AreRows, AreAllRows, Section, sections, sign_size}
 use Rattle.data_names.specs.Parts.{Source}
-use Rattle.data_names.specs.Items.{IsTold, DataItem, AreDataItems}
+use Rattle.data_names.specs.Items.{IsTold, IsToldWhole, DataItem, AreDataItems}
+use Rattle.picture_rule.proofs.Results.{whole_once}
 use Rattle.data_names.proofs.Forms.{spells_once}
 
 -- ---- what a text comes to
@@ -77,6 +78,10 @@ told_once (Some text) (Some kind) (Some other) signed more one two =
     let same : one.1 ≡ two.1 = (spells_once text one.0 two.0 one.1 two.1 one.2 two.2).1 in
     (ap Some (one.3 ∙ ap (λ f. f.kind) same ∙ sym two.3), one.4 ∙ ap (λ f. f.signed) same ∙ sym two.4)
 
+told_whole_once : (text : Option (List ℕ)) (whole other : Bool) → IsToldWhole text whole → IsToldWhole text other → whole ≡ other
+told_whole_once None whole other one two = one ∙ sym two
+told_whole_once (Some text) whole other one two = whole_once text whole other one two
+
 -- ---- rows
 
 row_of : ℕ → Line → ℕ → Bool → Bool → Bool → Option ℕ → Bool → Spelled → ℕ → Row
@@ -104,16 +109,16 @@ same_text : (a b : Described) → a.name ≡ b.name → a.picture ≡ b.picture 
 same_text a b name picture =
     let parts : text_of a.name a.picture ≡ text_of b.name b.picture = cc in sym (text-parts a) ∙ parts ∙ text-parts b
 
-item_of : Source → Row → Described → Option PictureKind → Bool → DataItem
-item_of source row text kind signed = record { source = source; row = row; text = text; kind = kind; signed = signed }
+item_of : Source → Row → Described → Option PictureKind → Bool → Bool → DataItem
+item_of source row text kind signed whole = record { source = source; row = row; text = text; kind = kind; signed = signed; whole = whole }
 
-item-parts : (a : DataItem) → item_of a.source a.row a.text a.kind a.signed ≡ a
+item-parts : (a : DataItem) → item_of a.source a.row a.text a.kind a.signed a.whole ≡ a
 unfolding item_of
 item-parts a = refl
 
-same_item : (a b : DataItem) → a.source ≡ b.source → a.row ≡ b.row → a.text ≡ b.text → a.kind ≡ b.kind → a.signed ≡ b.signed → a ≡ b
-same_item a b source row text kind signed =
-    let parts : item_of a.source a.row a.text a.kind a.signed ≡ item_of b.source b.row b.text b.kind b.signed = cc in sym (item-parts a) ∙ parts ∙ item-parts b
+same_item : (a b : DataItem) → a.source ≡ b.source → a.row ≡ b.row → a.text ≡ b.text → a.kind ≡ b.kind → a.signed ≡ b.signed → a.whole ≡ b.whole → a ≡ b
+same_item a b source row text kind signed whole =
+    let parts : item_of a.source a.row a.text a.kind a.signed a.whole ≡ item_of b.source b.row b.text b.kind b.signed b.whole = cc in sym (item-parts a) ∙ parts ∙ item-parts b
 
 row_once : (of_file first : Bool) (n : ℕ) (entry : ItemEntry) (rest : List DataEntry) (row other : Row) (text more : Described)
     → IsRow of_file first n entry rest row text → IsRow of_file first n entry rest other more → (row ≡ other) × (text ≡ more)
@@ -145,28 +150,33 @@ all_rows_once n (section ∷ later) rows others texts more one two =
 -- ---- items
 
 item_once : (a b : DataItem) → a.source ≡ b.source → a.row ≡ b.row → a.text ≡ b.text → IsTold (picture_text a.source.entry.clauses) a.kind a.signed
-    → IsTold (picture_text b.source.entry.clauses) b.kind b.signed → a ≡ b
-item_once a b source row text one two =
+    → IsTold (picture_text b.source.entry.clauses) b.kind b.signed → IsToldWhole (picture_text a.source.entry.clauses) a.whole → IsToldWhole (picture_text b.source.entry.clauses) b.whole → a ≡ b
+item_once a b source row text one two three four =
     let moved : IsTold (picture_text b.source.entry.clauses) a.kind a.signed = subst (λ x. IsTold (picture_text x.entry.clauses) a.kind a.signed) source one in
     let told = told_once (picture_text b.source.entry.clauses) a.kind b.kind a.signed b.signed moved two in
-    same_item a b source row text told.0 told.1
+    let whole = subst (λ x. IsToldWhole (picture_text x.entry.clauses) a.whole) source three in
+    same_item a b source row text told.0 told.1 (told_whole_once (picture_text b.source.entry.clauses) a.whole b.whole whole four)
 
 abbrev Told : DataItem → Type 0
 Told item = IsTold (picture_text item.source.entry.clauses) item.kind item.signed
 
+abbrev ToldWhole : DataItem → Type 0
+ToldWhole item = IsToldWhole (picture_text item.source.entry.clauses) item.whole
+
 lists_once : (a b : List DataItem) → map (λ item. item.source) a ≡ map (λ item. item.source) b → map (λ item. item.row) a ≡ map (λ item. item.row) b
     → map (λ item. item.text) a ≡ map (λ item. item.text) b → All (λ item. IsTold (picture_text item.source.entry.clauses) item.kind item.signed) a
-    → All (λ item. IsTold (picture_text item.source.entry.clauses) item.kind item.signed) b → a ≡ b
-lists_once [] [] source row text one two = refl
-lists_once [] (y ∷ b) source row text one two = absurd (cc source)
-lists_once (x ∷ a) [] source row text one two = absurd (cc source)
-lists_once (x ∷ a) (y ∷ b) source row text one two =
+    → All (λ item. IsTold (picture_text item.source.entry.clauses) item.kind item.signed) b → All ToldWhole a → All ToldWhole b → a ≡ b
+lists_once [] [] source row text one two three four = refl
+lists_once [] (y ∷ b) source row text one two three four = absurd (cc source)
+lists_once (x ∷ a) [] source row text one two three four = absurd (cc source)
+lists_once (x ∷ a) (y ∷ b) source row text one two three four =
     let source_is : x.source ≡ y.source = cc source in let sources_are : map (λ item. item.source) a ≡ map (λ item. item.source) b = cc source in
     let row_is : x.row ≡ y.row = cc row in let rows_are : map (λ item. item.row) a ≡ map (λ item. item.row) b = cc row in
     let text_is : x.text ≡ y.text = cc text in let texts_are : map (λ item. item.text) a ≡ map (λ item. item.text) b = cc text in
-    ap (λ z. z ∷ a) (item_once x y source_is row_is text_is (All-head Told x a one) (All-head Told y b two)) ∙ ap (λ z. y ∷ z) (lists_once a b sources_are rows_are texts_are (All-tail Told x a one) (All-tail Told y b two))
+    ap (λ z. z ∷ a) (item_once x y source_is row_is text_is (All-head Told x a one) (All-head Told y b two) (All-head ToldWhole x a three) (All-head ToldWhole y b four))
+    ∙ ap (λ z. y ∷ z) (lists_once a b sources_are rows_are texts_are (All-tail Told x a one) (All-tail Told y b two) (All-tail ToldWhole x a three) (All-tail ToldWhole y b four))
 
 pub items_once : (front : Front) (a b : List DataItem) → AreDataItems front a → AreDataItems front b → a ≡ b
 items_once front a b one two =
     let rows = all_rows_once 0 (sections front) _ _ _ _ one.rows two.rows in
-    lists_once a b (one.entries ∙ sym two.entries) rows.0 rows.1 one.told two.told
+    lists_once a b (one.entries ∙ sym two.entries) rows.0 rows.1 one.told two.told one.whole two.whole

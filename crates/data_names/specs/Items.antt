@@ -3,7 +3,7 @@ use Rattle.std.specs.Prelude.{◌≡◌, ℕ, ◌+◌, Bool, false, List, [], �
 use Rattle.cob_base.specs.declared.divisions.Front.{Front}
 use Rattle.cob_base.specs.declared.divisions.FileDescription.{FileDescription}
 use Rattle.picture_rule.specs.Picture.{Form}
-use Rattle.picture_rule.specs.Text.{Spells}
+use Rattle.picture_rule.specs.Text.{Spells, IsWhole}
 use Rattle.picture_rule.specs.declared.kind.PictureKind.{PictureKind}
 use Rattle.data_layout.specs.declared.row.Row.{Row}
 use Rattle.data_layout.specs.declared.row.Described.{Described}
@@ -16,6 +16,11 @@ IsTold None told signed = (told ≡ None) × (signed ≡ false)
 IsTold (Some text) None signed = ((marks : List ℕ) (form : Form) → Spells text marks form → ⊥) × (signed ≡ false)
 IsTold (Some text) (Some kind) signed = (marks : List ℕ) × (form : Form) × Spells text marks form × (kind ≡ form.kind) × (signed ≡ form.signed)
 
+-- whether that text spells a form without decimals
+abbrev pub IsToldWhole : Option (List ℕ) → Bool → Type 0
+IsToldWhole None whole = whole ≡ false
+IsToldWhole (Some text) whole = IsWhole text whole
+
 -- ---- items of the data division
 
 -- An item: its entry, its row in the layout of storage, its name, its picture where that keeps the limits, and what its picture's
@@ -26,6 +31,7 @@ pub record DataItem : Type 0 where
   pub text : Described
   pub kind : Option PictureKind
   pub signed : Bool
+  pub whole : Bool
 
 -- the entries of the files' items, the descriptions numbered from here on
 abbrev pub file_sources : ℕ → List FileDescription → List Source
@@ -42,3 +48,4 @@ pub record AreDataItems (front : Front) (items : List DataItem) : Type 0 where
   pub rows : AreAllRows 0 (sections front) (map (λ item. item.row) items) (map (λ item. item.text) items)
   pub entries : map (λ item. item.source) items ≡ sources front
   pub told : All (λ item. IsTold (picture_text item.source.entry.clauses) item.kind item.signed) items
+  pub whole : All (λ item. IsToldWhole (picture_text item.source.entry.clauses) item.whole) items

@@ -6,6 +6,7 @@ pub mod References
 pub mod Seen
 pub mod Facts
 pub mod Names
+pub mod Asked
 pub mod Pairs
 pub mod Survey
 pub mod Table

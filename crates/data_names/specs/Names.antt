@@ -14,6 +14,10 @@ use Rattle.data_names.specs.Items.{DataItem}
 abbrev pub in_small : List ℕ → List ℕ
 in_small name = map to_ascii_lowercase name
 
+-- the key of a name and the name of a group
+abbrev pub pair_key : List ℕ → List ℕ → List ℕ
+pair_key name group = in_small name ++ (32 ∷ in_small group)
+
 -- the numbers, counted on from here, of those that pass
 abbrev pub numbers_from : {A : Type 0} → ℕ → (A → Bool) → List A → List ℕ
 numbers_from number test [] = []

@@ -1,16 +1,15 @@
--- The numbers of the items of each name that are in a group of each name.
-use Rattle.std.specs.Prelude.{◌≡◌, ℕ, Bool, true, false, List, ◌∷◌, ◌++◌, reverse, Option, Some, None}
+-- The numbers of the items of each name that are in a group of each name, for the names that are asked for.
+use Rattle.std.specs.Prelude.{◌≡◌, ℕ, Bool, true, false, ◌&&◌, List, reverse, Option, Some, None}
 use Rattle.std.specs.List.{list_any}
 use Rattle.std.specs.Str.{bytes_eq}
+use Rattle.data_names.specs.declared.asked.AskedPairs.{AskedPairs}
+use Rattle.data_names.specs.declared.names.Names.{Names}
 use Rattle.data_names.specs.declared.pairs.Pairs.{Pairs}
 use Rattle.data_names.specs.Items.{DataItem}
 use Rattle.data_names.specs.Spots.{Spot, spots}
 use Rattle.data_names.specs.References.{names_around, is_match}
-use Rattle.data_names.specs.Names.{in_small, numbers_from, numbers_under}
-
--- the key of a name and the name of a group
-abbrev pub pair_key : List ℕ → List ℕ → List ℕ
-pair_key name group = in_small name ++ (32 ∷ in_small group)
+use Rattle.data_names.specs.Names.{pair_key, numbers_from, numbers_under}
+use Rattle.data_names.specs.Asked.{is_asked, is_name_asked}
 
 abbrev pub is_pair : List ℕ → List ℕ → Option (List ℕ) → Bool
 is_pair key name None = false
@@ -24,13 +23,21 @@ is_in key (Some name) groups = list_any (is_pair key name) groups
 abbrev pub is_under_pair : List ℕ → Spot DataItem → Bool
 is_under_pair key spot = is_in key spot.item.text.name (reverse (names_around spot))
 
--- the numbers that a table has under the key of a pair
-abbrev pub numbers_under_pair : Pairs → List ℕ → List ℕ
-numbers_under_pair pairs key = numbers_under pairs.numbers key
+-- the item's name is asked for, and so is the key, which is that of its name and of the name of one of its groups
+abbrev pub is_kept : AskedPairs → List ℕ → Spot DataItem → Bool
+is_kept asked key spot = is_name_asked asked spot.item.text.name && (is_under_pair key spot && is_asked asked key)
 
--- the numbers of these items are under the keys of their names and the names of their groups
+-- of these items those whose pairs are asked for have their numbers under the keys of the pairs
+abbrev pub AreAskedNumbers : List DataItem → AskedPairs → Names → Type 0
+AreAskedNumbers items asked numbers = (key : List ℕ) → numbers_under numbers key ≡ numbers_from 0 (is_kept asked key) (spots items)
+
 abbrev pub ArePairs : List DataItem → Pairs → Type 0
-ArePairs items pairs = (key : List ℕ) → numbers_under_pair pairs key ≡ numbers_from 0 (is_under_pair key) (spots items)
+ArePairs items pairs = AreAskedNumbers items pairs.asked pairs.numbers
+
+-- the numbers that a table has under a key, where that is asked for
+abbrev pub IsUnder : Pairs → List ℕ → Option (List ℕ) → Type 0
+IsUnder pairs key None = is_asked pairs.asked key ≡ false
+IsUnder pairs key (Some numbers) = (is_asked pairs.asked key ≡ true) × (numbers ≡ numbers_under pairs.numbers key)
 
 -- Among these numbers are those of all items that match.
 pub record IsCover (items : List DataItem) (name : List ℕ) (qualifiers : List (List ℕ)) (numbers : List ℕ) : Type 0 where

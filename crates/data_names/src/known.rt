@@ -1,9 +1,10 @@
 ghost use Rattle.std.specs.Prelude.{◌≡◌, ◌++◌, length, map, All, OnOk, IfOk};
 ghost use Rattle.std.specs.Option.{option_copied};
+ghost use Rattle.picture_rule.specs.Text.{IsWhole};
 ghost use Rattle.data_layout.specs.Rows.{sections, AreAllRows};
 ghost use Rattle.data_names.specs.Parts.{item_entries};
-ghost use Rattle.data_names.specs.Items.{sources, file_sources, IsTold, AreDataItems};
-ghost use Rattle.data_names.specs.Seen.{seen_source, seen_item, filed, IsToldItem};
+ghost use Rattle.data_names.specs.Items.{sources, file_sources, IsTold, IsToldWhole, AreDataItems};
+ghost use Rattle.data_names.specs.Seen.{seen_source, seen_item, filed, IsToldItem, IsToldWholeItem};
 
 use crate::item_clauses;
 use crate::parts::{descriptions, working_storage};
@@ -27,6 +28,8 @@ pub struct Told {
     pub kind: Option<PictureKind>,
     /// Whether there is an S.
     pub signed: bool,
+    /// Whether there is a picture, and it has no decimals.
+    pub whole: bool,
 }
 
 /// An item of the data division.
@@ -80,32 +83,45 @@ fn push_sources<'a>(
 
 /// What the text after PICTURE spells.
 pub fn tell(alloc: Global, text: Option<&ByteText>) -> Result<Told, NoMemory>
-    ensures { IfOk result (λ told. IsTold (option_copied text.entry) told.kind told.signed) }
+    ensures told { IfOk result (λ told. IsTold (option_copied text.entry) told.kind told.signed) }
+    ensures whole { IfOk result (λ told. IsToldWhole (option_copied text.entry) told.whole) }
 {
     match text {
         None => Ok(Told {
             kind: None,
             signed: false,
+            whole: false,
         }),
         Some(text) => tell_text(alloc, text.as_bytes()),
     }
 }
 
 fn tell_text(alloc: Global, text: &[u8]) -> Result<Told, NoMemory>
-    ensures { IfOk result (λ told. IsTold (Some text.now) told.kind told.signed) }
+    ensures told { IfOk result (λ told. IsTold (Some text.now) told.kind told.signed) }
+    ensures whole { IfOk result (λ told. IsWhole text.now told.whole) }
 {
     match read_picture(alloc, text) {
         Ok(picture) => Ok(Told {
             kind: Some(picture.kind),
             signed: picture.signed,
+            whole: picture.decimals == 0,
         }),
         Err(PictureFault::NoPicture) => Ok(Told {
             kind: None,
             signed: false,
+            whole: false,
         }),
-        Err(PictureFault::TooWide { kind, signed, .. }) => Ok(Told {
+        Err(
+            PictureFault::TooWide {
+                kind,
+                signed,
+                whole,
+                ..
+            },
+        ) => Ok(Told {
             kind: Some(kind),
             signed,
+            whole,
         }),
         Err(PictureFault::NoMemory) => Err(NoMemory),
     }
@@ -139,6 +155,7 @@ fn join<'a>(
     ensures rows { IfOk result (λ items. map (λ item. item.row) items.items ≡ rows.now) }
     ensures texts { IfOk result (λ items. map (λ item. item.text.now) items.items ≡ texts.entry.now) }
     ensures told { IfOk result (λ items. All IsToldItem items.items) }
+    ensures whole { IfOk result (λ items. All IsToldWholeItem items.items) }
 {
     let mut items = Vec::new(alloc);
     for (at, source) in sources.iter().enumerate() {

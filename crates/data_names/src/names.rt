@@ -1,6 +1,7 @@
-ghost use Rattle.std.specs.Prelude.{◌≡◌, ◌⊎◌, ◌++◌, ◌∷◌, [], if◌then◌else◌, ℕ, List, length, map, min, IfOk, OnOk};
+ghost use Rattle.std.specs.Prelude.{◌≡◌, ◌≤◌, ◌⊎◌, ◌++◌, ◌∷◌, [], if◌then◌else◌, ℕ, List, length, map, min, Some, IfOk, OnOk};
+ghost use Rattle.std.specs.Option.{option_copied};
 ghost use Rattle.std.specs.Str.{bytes_eq};
-ghost use Rattle.data_names.specs.Names.{in_small, is_under, numbers_under, ends_with, with_number, AreNames};
+ghost use Rattle.data_names.specs.Names.{in_small, pair_key, is_under, numbers_under, ends_with, with_number, AreNames};
 ghost use Rattle.data_names.specs.References.{same_name};
 ghost use Rattle.data_names.specs.Seen.{seen_item};
 
@@ -18,6 +19,17 @@ pub fn folded(alloc: Global, name: &[u8]) -> Result<Vec<u8>, NoMemory>
             .map(|byte| byte.to_ascii_lowercase())
             .collect(alloc)?,
     )
+}
+
+/// The key of a name and the name of a group, in small letters.
+pub(crate) fn pair_key(alloc: Global, name: &[u8], group: &[u8]) -> Result<Vec<u8>, NoMemory>
+    ensures { IfOk result (λ key. key.items ≡ pair_key name.now group.now) }
+{
+    let mut key = folded(alloc, name)?;
+    let group = folded(alloc, group)?;
+    key.push(b' ')?;
+    key.extend_from_slice(group.as_slice())?;
+    Ok(key)
 }
 
 /// Whether two names are the same, without regard to case.
@@ -119,8 +131,19 @@ impl Names {
     }
 }
 
+/// The shorter of a list of numbers and another, where there is one.
+pub fn fewest<'a>(some: &'a [usize], others: Option<&'a [usize]>) -> &'a [usize]
+    ensures one { (result.now ≡ some.entry.now) ⊎ (option_copied others.entry ≡ Some result.now) }
+    ensures least { length result.now ≤ length some.entry.now }
+{
+    match others {
+        Some(others) => shorter(some, others),
+        None => some,
+    }
+}
+
 /// The shorter of two lists of numbers.
-pub fn shorter<'a>(some: &'a [usize], others: &'a [usize]) -> &'a [usize]
+fn shorter<'a>(some: &'a [usize], others: &'a [usize]) -> &'a [usize]
     ensures one { (result.now ≡ some.entry.now) ⊎ (result.now ≡ others.entry.now) }
     ensures least { length result.now ≡ min (length some.entry.now) (length others.entry.now) }
 {

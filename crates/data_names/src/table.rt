@@ -9,7 +9,7 @@ ghost use Rattle.data_names.specs.Table.{IsTable, IsFound, IsAmong, IsFoundAt, i
 
 use crate::facts::Facts;
 use crate::known::KnownItem;
-use crate::names::{Names, same_name, shorter};
+use crate::names::{Names, fewest, same_name};
 use crate::pairs::Pairs;
 use cob_base::{ByteText, NoMemory, Reference};
 use std::alloc::Global;
@@ -68,7 +68,7 @@ impl Table<'_> {
         Ok(found)
     }
 
-    /// The numbers of items among which are all that match: the fewest that the name or one of its pairs gives.
+    /// The numbers of items among which are all that match: the fewest that the name or one of its pairs gives that were asked for.
     fn candidates(
         &self,
         alloc: Global,
@@ -79,11 +79,15 @@ impl Table<'_> {
         ensures { IfOk result (λ numbers. IsCover (items_of self.entry.now) name.now qualifiers.now numbers.now) }
     {
         let mut best = self.names.numbers(alloc, name.as_bytes())?;
+        let asked = self.pairs.has_name(alloc, name.as_bytes())?;
+        if !asked {
+            return Ok(best);
+        }
         for qualifier in qualifiers {
             let numbers = self
                 .pairs
                 .numbers(alloc, name.as_bytes(), qualifier.as_bytes())?;
-            best = shorter(best, numbers);
+            best = fewest(best, numbers);
         }
         Ok(best)
     }

@@ -1,5 +1,5 @@
 -- The clauses of entries. Where one stands twice, the first counts.
-use Rattle.std.specs.Prelude.{ℕ, nat_lt, ◌==◌, Bool, true, false, not, List, count_by, Option, Some, None, unwrap_or}
+use Rattle.std.specs.Prelude.{ℕ, nat_lt, ◌==◌, Bool, true, false, not, List, [], ◌∷◌, count_by, Option, Some, None, unwrap_or}
 use Rattle.std.specs.List.{list_any, filter_map}
 use Rattle.cob_base.specs.declared.operands.Reference.{Reference}
 use Rattle.cob_base.specs.declared.operands.Operand.{Operand}
@@ -17,10 +17,8 @@ use Rattle.cob_base.specs.declared.screen_entries.Position.{Position}
 use Rattle.data_names.specs.Clauses.{first_of}
 use Rattle.entry_clauses.specs.declared.file_clauses.FileClauseKind.{FileClauseKind}
 use Rattle.entry_clauses.specs.declared.file_clauses.FileClauseKind.TheVariants as k
-use Rattle.entry_clauses.specs.declared.file_clauses.TheConstants.{FILE_CLAUSE_KINDS}
 use Rattle.entry_clauses.specs.declared.screen_clauses.ScreenClauseKind.{ScreenClauseKind}
 use Rattle.entry_clauses.specs.declared.screen_clauses.ScreenClauseKind.TheVariants as n
-use Rattle.entry_clauses.specs.declared.screen_clauses.TheConstants.{SCREEN_CLAUSE_KINDS}
 
 -- whether more than one passes
 abbrev pub are_several : {A : Type 0} → List A → (A → Bool) → Bool
@@ -39,9 +37,13 @@ is_of_file_kind k.Lock (f.Lock mode on) = true
 is_of_file_kind k.Sharing (f.Sharing sharing) = true
 is_of_file_kind _ _ = false
 
+-- The clauses that may be written once: all but ALTERNATE. An outside clause takes the words after it, and is no second ORGANIZATION.
+abbrev pub single_file_clauses : List FileClauseKind
+single_file_clauses = k.Organization ∷ k.Access ∷ k.RecordKey ∷ k.FileStatus ∷ k.Lock ∷ k.Sharing ∷ []
+
 -- some clause other than ALTERNATE is written twice
 abbrev pub is_file_clause_twice : List FileClause → Bool
-is_file_clause_twice clauses = list_any (λ kind. are_several clauses (is_of_file_kind kind)) FILE_CLAUSE_KINDS
+is_file_clause_twice clauses = list_any (λ kind. are_several clauses (is_of_file_kind kind)) single_file_clauses
 
 abbrev pub key_named : FileClause → Option Reference
 key_named (f.RecordKey key) = Some key
@@ -120,9 +122,15 @@ is_of_screen_kind (n.Mark mark) (s.Mark other) = number_of_mark mark == number_o
 is_of_screen_kind n.Outside s.Outside = true
 is_of_screen_kind _ _ = false
 
+-- The clauses that may be written once: all. An outside clause takes the words after it.
+abbrev pub single_screen_clauses : List ScreenClauseKind
+single_screen_clauses =
+    n.Blank ∷ n.Erase ∷ n.Line ∷ n.Column ∷ n.Value ∷ n.Picture ∷ n.From ∷ n.To ∷ n.Using ∷ n.ForegroundColor ∷ n.BackgroundColor
+    ∷ n.Mark m.Highlight ∷ n.Mark m.Lowlight ∷ n.Mark m.ReverseVideo ∷ n.Mark m.Underline ∷ n.Mark m.Blink ∷ n.Mark m.Secure ∷ n.Mark m.Required ∷ n.Mark m.Full ∷ n.Mark m.Auto ∷ []
+
 -- some clause is written twice
 abbrev pub is_screen_clause_twice : List ScreenClause → Bool
-is_screen_clause_twice clauses = list_any (λ kind. are_several clauses (is_of_screen_kind kind)) SCREEN_CLAUSE_KINDS
+is_screen_clause_twice clauses = list_any (λ kind. are_several clauses (is_of_screen_kind kind)) single_screen_clauses
 
 abbrev pub line_named : ScreenClause → Option Position
 line_named (s.Line position) = Some position

@@ -2,7 +2,6 @@
 use Rattle.std.proofs.Common.{◌≡◌, ℕ, ◌+◌, ◌*◌, ◌<◌, ◌||◌, ◌&&◌, refl, sym, ◌∙◌, ap, subst, arith, inl, inr, Bool, true, false, cond, List, [], ◌∷◌, ◌++◌, take, drop, append_assoc, Option, Some, None}
 use Rattle.std.specs.Prelude.{filter, find, if◌then◌else◌, is_some, slice_get, not}
 use Rattle.std.specs.List.{list_any, list_all}
-use Rattle.std.specs.Option.{option_map_or}
 use Rattle.std.proofs.lemmas.List.Folds.{list_all-append}
 use Rattle.std.proofs.lemmas.List.Elements.{filter-append}
 use Rattle.data_layout.specs.declared.row.Row.{Row}
@@ -11,6 +10,7 @@ use Rattle.data_layout.specs.declared.layout.Layout.{Layout}
 use Rattle.data_layout.specs.Storage.{goes_on, number_of_times, storage, is_repeated}
 use Rattle.data_layout.specs.Faults.{is_bad_level, level_fits, has_bad_clauses}
 use Rattle.data_layout.specs.Layout.{IsOffset}
+use Rattle.data_layout.specs.Occurrences as laid
 use Rattle.data_layout.proofs.Places.{NextIs, repeated_of}
 use Rattle.data_names.specs.Items.{DataItem}
 use Rattle.data_names.specs.Spots.{Spot, spot_of, open_after}
@@ -107,8 +107,8 @@ offset_inside before row offset place (inr (ahead, group, later, parts, all, occ
 
 -- ---- the law of an item that stands in no table
 
-pub size_at : (places : List Item) (n : ℕ) (place : Item) → slice_get places n ≡ Some place → option_map_or (λ (item : Item). item.size) (slice_get places n) 0 ≡ place.size
-size_at places n place h = ap (λ o. option_map_or (λ (item : Item). item.size) o 0) h
+pub size_at : (places : List Item) (n : ℕ) (place : Item) → slice_get places n ≡ Some place → laid.stride_of (slice_get places n) ≡ place.size
+size_at places n place h = ap laid.stride_of h
 
 abbrev pub LawAt : Layout → List ℕ → Item → List ℕ → Option DataItem → Type 0
 LawAt layout b place c table = (k : ℕ) → k < times_of table → take place.size (drop (place.offset + k * stride_of layout table) b) ≡ c

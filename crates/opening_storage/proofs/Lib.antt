@@ -7,6 +7,6 @@ pub mod Tables
 pub mod ItemLaws
 pub mod Walk
 pub mod Entering
-pub mod Numbering
+pub mod EntryGroups
 pub mod WholeStorage
 pub mod Holding

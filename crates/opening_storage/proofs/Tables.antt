@@ -2,13 +2,13 @@
 use Rattle.std.proofs.Common.{◌≡◌, ℕ, ◌+◌, ◌*◌, ◌<◌, refl, sym, ◌∙◌, ap, subst, arith, Bool, true, false, List, [], ◌∷◌, ◌++◌, length, take, drop, sum_by, Option, Some, None, length-append}
 use Rattle.std.specs.Prelude.{if◌then◌else◌, is_some, slice_get}
 use Rattle.std.specs.List.{list_any, list_all}
-use Rattle.std.specs.Option.{option_map_or}
 use Rattle.std.proofs.lemmas.List.{map-append, drop-drop}
 use Rattle.std.proofs.lemmas.List.Sums.{sum_by-cons}
 use Rattle.data_layout.specs.declared.row.Row.{Row}
 use Rattle.data_layout.specs.declared.layout.Item.{Item}
 use Rattle.data_layout.specs.Storage.{goes_on, own_size, number_of_times, storage, members, is_repeated}
 use Rattle.data_layout.specs.Layout.{size_of}
+use Rattle.data_layout.specs.Occurrences.{stride_of}
 use Rattle.data_layout.proofs.Places.{NextIs, repeated_of}
 use Rattle.data_names.specs.Items.{DataItem}
 use Rattle.opening_storage.specs.Filling.{Once, Filled, closed, closed_bytes, often}
@@ -18,7 +18,7 @@ use Rattle.opening_storage.proofs.Members.{rows_of, repeated_at, Clear, Outside,
 
 -- how far an occurrence of this table lies from the one before it
 abbrev pub stride_at : List Item → DataItem → ℕ
-stride_at places table = option_map_or (λ (item : Item). item.size) (slice_get places table.row.number) 0
+stride_at places table = stride_of (slice_get places table.row.number)
 
 -- A table is open behind these items, and `next` comes: how it lies among them, and what is there of it.
 pub record InTable (places : List Item) (stride : ℕ) (ahead next : List DataItem) (bytes : List ℕ) (once : Once) : Type 0 where

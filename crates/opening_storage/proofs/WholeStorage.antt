@@ -18,6 +18,8 @@ use Rattle.data_layout.specs.Faults.{fault_where, row_faults, faults_after, layo
 use Rattle.data_layout.specs.Storage.{number_of_times}
 use Rattle.data_layout.specs.Layout.{AreItems, IsInside, IsLayout}
 use Rattle.data_layout.specs.Outcome.{IsLayoutOf}
+use Rattle.data_layout.specs.Placed.{NumberedFrom}
+use Rattle.data_layout.proofs.Numbers.{numbered_all}
 use Rattle.data_names.specs.Items.{DataItem, AreDataItems}
 use Rattle.data_names.specs.Spots.{Spot, spots, spots_after}
 use Rattle.data_names.proofs.SameItems.{all_rows_once, items_once}
@@ -26,7 +28,7 @@ use Rattle.opening_storage.specs.Filling.{IsSized, before_all, own_bytes}
 use Rattle.opening_storage.proofs.Members.{Facts, rows_of, Clear, Outside, Leaves}
 use Rattle.opening_storage.proofs.Tables.{Standing}
 use Rattle.opening_storage.proofs.Entering.{Outcome, end_of, comes_out}
-use Rattle.opening_storage.proofs.Numbering.{NumberedFrom, numbered_all, Grouped, LeavesRow, grouped_all}
+use Rattle.opening_storage.proofs.EntryGroups.{Grouped, LeavesRow, grouped_all}
 
 -- ---- no fault
 

@@ -1,7 +1,6 @@
 -- The opening storage of a program: the bytes of its files' records in order, then those of working storage.
 use Rattle.std.specs.Prelude.{◌≡◌, ℕ, ◌+◌, ◌*◌, ◌<◌, Bool, true, not, ◌&&◌, ◌||◌, if◌then◌else◌, pos, List, [], ◌∷◌, ◌++◌, length, take, drop, replicate, find, Option, Some, None, is_some, slice_get}
 use Rattle.std.specs.List.{list_any, AllZip}
-use Rattle.std.specs.Option.{option_map_or}
 use Rattle.cob_base.specs.declared.divisions.Front.{Front}
 use Rattle.cob_base.specs.declared.operands.Constant.{Constant}
 use Rattle.cob_base.specs.declared.operands.Constant.TheVariants as c
@@ -11,6 +10,7 @@ use Rattle.cob_value.specs.Figures.{is_numeric, is_number}
 use Rattle.cob_value.specs.Texts.{fitted}
 use Rattle.cob_value.specs.Moves.{may_fill, filled}
 use Rattle.data_layout.specs.Storage.{number_of_times}
+use Rattle.data_layout.specs.Occurrences as laid
 use Rattle.data_layout.specs.declared.layout.Layout.{Layout}
 use Rattle.data_layout.specs.declared.layout.Item.{Item}
 use Rattle.data_names.specs.Clauses.{value_clause}
@@ -40,7 +40,7 @@ times_of (Some table) = number_of_times table.row.occurs
 -- how far an occurrence lies from the one before it
 abbrev pub stride_of : Layout → Option DataItem → ℕ
 stride_of layout None = 0
-stride_of layout (Some table) = option_map_or (λ item. item.size) (slice_get layout.items table.row.number) 0
+stride_of layout (Some table) = laid.stride_of (slice_get layout.items table.row.number)
 
 -- the bytes of each occurrence of an item
 abbrev pub Opens : Layout → List ℕ → Spot DataItem → Item → Type 0

@@ -1,5 +1,5 @@
 -- How a text writes a picture's marks.
-use Rattle.std.specs.Prelude.{◌≡◌, ℕ, ◌-◌, ◌^◌, ◌<◌, min, Bool, true, List, [], ◌∷◌, ◌++◌, codes}
+use Rattle.std.specs.Prelude.{◌≡◌, ◌↔◌, ℕ, ◌-◌, ◌^◌, ◌<◌, min, Bool, true, IsTrue, List, [], ◌∷◌, ◌++◌, codes}
 use Rattle.std.specs.List.{repeat}
 use Rattle.std.specs.Char.{to_ascii_uppercase}
 use Rattle.std.specs.Str.Parse.{digits_value, IsNumeral}
@@ -44,3 +44,7 @@ picture_of marks form = record { kind = form.kind; size = form.size; digits = fo
 -- What a too wide picture tells: its category, its size or the largest number there is, and whether it has an S.
 abbrev pub IsTooWide : List ℕ → PictureKind → ℕ → Bool → Type 0
 IsTooWide text kind size signed = (marks : List ℕ) × (form : Form) × Spells text marks form × (Fits form → ⊥) × (kind ≡ form.kind) × (size ≡ min form.size (2 ^ 32 - 1)) × (signed ≡ form.signed)
+
+-- the text spells a form without decimals, whatever its size
+abbrev pub IsWhole : List ℕ → Bool → Type 0
+IsWhole text whole = IsTrue whole ↔ ((marks : List ℕ) × (form : Form) × Spells text marks form × (form.decimals ≡ 0))

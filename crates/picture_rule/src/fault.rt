@@ -11,12 +11,13 @@ pub enum PictureFault {
     #[error("no picture")]
     NoPicture,
     /// A form fits, but it is past its limits. `size` is the number of bytes that the text spells, or `u32::MAX` where there
-    /// are more.
+    /// are more; `whole` says that it spells no decimals.
     #[error("a picture past its limits, of {size} bytes")]
     TooWide {
         kind: PictureKind,
         size: u32,
         signed: bool,
+        whole: bool,
     },
     /// Want of memory.
     #[error("memory ran out")]

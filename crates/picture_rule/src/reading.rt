@@ -1,6 +1,6 @@
 ghost use Rattle.std.specs.Prelude.{◌≡◌, ◌<◌, ◌≤◌, ◌^◌, ℕ, Bool, List, length, IfOk, IfErr, IfSome, IsSomeAnd, IsTrue, OnOk, ◌↔◌, ◌++◌};
 ghost use Rattle.picture_rule.specs.Picture.{Form, IsWithin};
-ghost use Rattle.picture_rule.specs.Text.{Spells, Fits, IsTooWide, kept, picture_of, Writes};
+ghost use Rattle.picture_rule.specs.Text.{Spells, Fits, IsTooWide, IsWhole, kept, picture_of, Writes};
 ghost use Rattle.std.specs.List.{repeat};
 ghost use Rattle.picture_rule.specs.Outline.{IsOutline};
 ghost use Rattle.picture_rule.specs.Reading.{marks_of};
@@ -89,7 +89,7 @@ fn picture_within(alloc: Global, text: &[u8], outline: Outline) -> Result<Pictur
 pub fn read_picture(alloc: Global, text: &[u8]) -> Result<Picture, PictureFault>
     ensures picture { IfOk result (λ p. (marks : List ℕ) × (form : Form) × Spells text.now marks form × Fits form × (p ≡ picture_of marks form)) }
     ensures no_picture { (result ≡ Err PictureFault.NoPicture) ↔ ((marks : List ℕ) (form : Form) → Spells text.now marks form → ⊥) }
-    ensures too_wide { (kind : PictureKind) (size : ℕ) (signed : Bool) → (result ≡ Err (PictureFault.TooWide kind size signed)) ↔ IsTooWide text.now kind size signed }
+    ensures too_wide { (kind : PictureKind) (size : ℕ) (signed whole : Bool) → (result ≡ Err (PictureFault.TooWide kind size signed whole)) ↔ (IsTooWide text.now kind size signed × IsWhole text.now whole) }
 {
     match outline_of(text) {
         None => Err(PictureFault::NoPicture),
@@ -101,6 +101,7 @@ pub fn read_picture(alloc: Global, text: &[u8]) -> Result<Picture, PictureFault>
                 kind: outline.kind,
                 size: outline.size.min(u64::from(u32::MAX)) as u32,
                 signed: outline.signed,
+                whole: outline.decimals == 0,
             })
         }
     }

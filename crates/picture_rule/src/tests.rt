@@ -183,44 +183,49 @@ fn no_form_fits(rt: HostRuntime) {
 
 #[test]
 fn a_form_fits_past_its_limits(rt: HostRuntime) {
-    let cases: [(&str, PictureKind, u32, bool); 14] = [
-        ("X(10000)", PictureKind::Alphanumeric, 10000, false),
-        ("X(9999)A", PictureKind::Alphanumeric, 10000, false),
+    let cases: [(&str, PictureKind, u32, bool, bool); 15] = [
+        ("X(10000)", PictureKind::Alphanumeric, 10000, false, true),
+        ("X(9999)A", PictureKind::Alphanumeric, 10000, false, true),
         (
             "X(99999999999999999999)",
             PictureKind::Alphanumeric,
             4294967295,
             false,
+            true,
         ),
-        ("9(19)", PictureKind::Numeric, 19, false),
-        ("S9(19)", PictureKind::Numeric, 19, true),
-        ("9(12)V9(7)", PictureKind::Numeric, 19, false),
-        ("9V9(7)", PictureKind::Numeric, 8, false),
+        ("9(19)", PictureKind::Numeric, 19, false, true),
+        ("S9(19)", PictureKind::Numeric, 19, true, true),
+        ("9(12)V9(7)", PictureKind::Numeric, 19, false, false),
+        ("S9(18)V9", PictureKind::Numeric, 19, true, false),
+        ("9V9(7)", PictureKind::Numeric, 8, false, false),
         (
             "S9(18446744073709551615)9",
             PictureKind::Numeric,
             4294967295,
             true,
+            true,
         ),
-        ("Z(19)", PictureKind::Edited, 19, false),
-        ("Z,(30)", PictureKind::Edited, 31, false),
-        ("9.9(7)", PictureKind::Edited, 9, false),
-        ("+Z(9),(20)9", PictureKind::Edited, 31, false),
-        ("9,(27)9CR", PictureKind::Edited, 31, false),
-        ("9(13).9(6)", PictureKind::Edited, 20, false),
+        ("Z(19)", PictureKind::Edited, 19, false, true),
+        ("Z,(30)", PictureKind::Edited, 31, false, true),
+        ("9.9(7)", PictureKind::Edited, 9, false, false),
+        ("+Z(9),(20)9", PictureKind::Edited, 31, false, true),
+        ("9,(27)9CR", PictureKind::Edited, 31, false, true),
+        ("9(13).9(6)", PictureKind::Edited, 20, false, false),
     ];
-    for (text, kind, size, signed) in cases {
+    for (text, kind, size, signed, whole) in cases {
         match read_picture(rt.alloc(), text.as_bytes()) {
             Err(
                 PictureFault::TooWide {
                     kind: told_kind,
                     size: told_size,
                     signed: told_signed,
+                    whole: told_whole,
                 },
             ) => {
                 assert!(rt; told_kind == kind, "{text}");
                 assert!(rt; told_size == size, "{text}");
                 assert!(rt; told_signed == signed, "{text}");
+                assert!(rt; told_whole == whole, "{text}");
             }
             _ => assert!(rt; false, "{text}"),
         }

@@ -7,7 +7,8 @@ use Rattle.std.proofs.lemmas.Bool.Decides.{nat_tests}
 use Rattle.std.specs.List.{list_all}
 use Rattle.std.proofs.lemmas.List.{drop_all}
 use Rattle.data_layout.specs.declared.layout.Item.{Item}
-use Rattle.screen_layout.specs.Names.{item_at, group_of, with_item, around, is_named, are_qualifiers}
+use Rattle.data_layout.specs.Occurrences.{item_at, group_of, with_item, around}
+use Rattle.screen_layout.specs.Names.{is_named, are_qualifiers}
 
 at_most : (m k : ℕ) → m ≤ k → nat_le m k ≡ true
 at_most m k h = grind (arith, nat_tests)

@@ -6,7 +6,8 @@ use Rattle.std.proofs.lemmas.List.{take_more, take-append-drop}
 use Rattle.std.proofs.lemmas.List.Elements.{filter-append}
 use Rattle.cob_base.specs.declared.operands.Reference.{Reference}
 use Rattle.data_layout.specs.declared.layout.Item.{Item}
-use Rattle.screen_layout.specs.Names.{with_item, around, around_item, is_named, are_qualifiers, matches, numbers_where, is_only}
+use Rattle.data_layout.specs.Occurrences.{with_item, around, around_item}
+use Rattle.screen_layout.specs.Names.{is_named, are_qualifiers, matches, numbers_where, is_only}
 use Rattle.screen_layout.specs.NameTable.{in_small, is_under, name_of}
 
 -- ---- one more number

@@ -9,7 +9,8 @@ use Rattle.std.proofs.lemmas.Bool.Decides.{nat_tests}
 use Rattle.std.proofs.lemmas.Option.{slice_get_within}
 use Rattle.cob_base.specs.declared.operands.Reference.{Reference}
 use Rattle.data_layout.specs.declared.layout.Item.{Item}
-use Rattle.screen_layout.specs.Names.{item_at, group_of, with_item, around, around_item, is_named, are_qualifiers, matches, numbers_where}
+use Rattle.data_layout.specs.Occurrences.{item_at, group_of, with_item, around, around_item}
+use Rattle.screen_layout.specs.Names.{is_named, are_qualifiers, matches, numbers_where}
 use Rattle.screen_layout.specs.NameTable.{in_small}
 use Rattle.screen_layout.specs.NamePairs.{in_pair, is_pair, is_pair_in, is_pair_of, IsList, is_number, ends_in, with_number, noted}
 use Rattle.screen_layout.proofs.Chains.{around_one}

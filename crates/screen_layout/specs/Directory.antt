@@ -3,7 +3,8 @@ use Rattle.std.specs.Prelude.{◌≡◌, ℕ, List, length, filter}
 use Rattle.cob_base.specs.declared.operands.Reference.{Reference}
 use Rattle.data_layout.specs.declared.layout.Item.{Item}
 use Rattle.screen_layout.specs.declared.directory.Directory.{Directory}
-use Rattle.screen_layout.specs.Names.{around_item, matches, matched_by}
+use Rattle.data_layout.specs.Occurrences.{around_item}
+use Rattle.screen_layout.specs.Names.{matches, matched_by}
 use Rattle.screen_layout.specs.NameTable.{AreNames}
 use Rattle.screen_layout.specs.NamePairs.{ArePairs}
 

@@ -8,7 +8,8 @@ use Rattle.std.specs.Str.{bytes_eq}
 use Rattle.std.specs.BTreeMap.{get_by}
 use Rattle.data_layout.specs.declared.layout.Item.{Item}
 use Rattle.screen_layout.specs.declared.pairs.Pairs.{Pairs}
-use Rattle.screen_layout.specs.Names.{around_item, numbers_where}
+use Rattle.data_layout.specs.Occurrences.{around_item}
+use Rattle.screen_layout.specs.Names.{numbers_where}
 use Rattle.screen_layout.specs.NameTable.{in_small}
 
 -- a name and the name of a group in small letters, with a space between

@@ -1,31 +1,10 @@
 -- Which item a reference names.
-use Rattle.std.specs.Prelude.{ℕ, zero, suc, ◌==◌, if◌then◌else◌, Bool, true, false, ◌&&◌, List, [], ◌∷◌, ◌++◌, length, Option, Some, None, slice_get}
+use Rattle.std.specs.Prelude.{ℕ, zero, suc, ◌==◌, if◌then◌else◌, Bool, true, false, ◌&&◌, List, [], ◌∷◌, ◌++◌, length, Option, Some, None}
 use Rattle.std.specs.Str.{str_eq_ignore_ascii_case}
 use Rattle.std.specs.List.{list_all}
 use Rattle.cob_base.specs.declared.operands.Reference.{Reference}
 use Rattle.data_layout.specs.declared.layout.Item.{Item}
-
--- the number of the group around an item
-abbrev pub group_of : Option Item → Option ℕ
-group_of None = None
-group_of (Some item) = item.parent
-
-abbrev pub item_at : List Item → Option ℕ → Option Item
-item_at items None = None
-item_at items (Some number) = slice_get items number
-
--- the item, in front of what stands around it
-abbrev pub with_item : Option Item → List Item → List Item
-with_item None groups = []
-with_item (Some item) groups = item ∷ groups
-
--- An item and the groups around it, from the inside out. There are no more of them than items.
-abbrev pub around : ℕ → List Item → Option ℕ → List Item
-around zero items place = []
-around (suc most) items place = with_item (item_at items place) (around most items (group_of (item_at items place)))
-
-abbrev pub around_item : List Item → ℕ → List Item
-around_item items number = around (length items) items (Some number)
+use Rattle.data_layout.specs.Occurrences.{around_item}
 
 -- names are compared without regard to case
 abbrev pub is_named : Option (List ℕ) → List ℕ → Bool

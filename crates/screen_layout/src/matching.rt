@@ -1,6 +1,7 @@
 ghost use Rattle.std.specs.Option.{option_copied};
 ghost use Rattle.std.specs.Prelude.{◌≡◌, ℕ, ◌+◌, ◌^◌, ◌<◌, if◌then◌else◌, List, filter, slice_get, slice_index, IsSome, Option, length, Some, [], ◌∷◌, map};
-ghost use Rattle.screen_layout.specs.Names.{item_at, around, around_item, is_named, are_qualifiers, matches, is_only, is_single};
+ghost use Rattle.data_layout.specs.Occurrences.{item_at, around, around_item};
+ghost use Rattle.screen_layout.specs.Names.{is_named, are_qualifiers, matches, is_only, is_single};
 
 use cob_base::{ByteText, Reference};
 use data_layout::Item;

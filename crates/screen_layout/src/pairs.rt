@@ -2,7 +2,7 @@ ghost use Rattle.std.specs.Prelude.{◌≡◌, ℕ, ◌+◌, slice_get, Some, if
 ghost use Rattle.std.specs.Option.{option_map, option_copied};
 ghost use Rattle.std.specs.Str.{bytes_eq};
 ghost use Rattle.data_layout.specs.declared.layout.Item.{Item};
-ghost use Rattle.screen_layout.specs.Names.{around};
+ghost use Rattle.data_layout.specs.Occurrences.{around};
 ghost use Rattle.screen_layout.specs.NamePairs.{in_pair, list_under, AreAsked, ArePairs, is_pair, noted, ends_in, with_number};
 
 use crate::clauses;

@@ -18,7 +18,7 @@ givers before item = item ∷ take_while (λ group. group.row.group) (reverse be
 abbrev pub position_of : (ScreenClause → Option Position) → List ScreenItem → ScreenItem → Option Position
 position_of named before item = first_of (λ giver. first_of named giver.entry.clauses) (givers before item)
 
--- Where an item ends: its line and its last column, which is not known after a text that is no picture.
+-- Where an item ends: its line and its last column, which is not known after a picture that is refused.
 pub record End : Type 0 where
   pub line : ℤ
   pub column : Option ℤ
@@ -45,11 +45,11 @@ abbrev pub text_size : Option (List ℕ) → ℕ
 text_size None = 0
 text_size (Some text) = length text
 
--- the bytes that an item shows: its picture's, or those of its VALUE; not known where its picture is none
+-- the bytes that an item shows: its picture's, or those of its VALUE; not known where its picture is none or has an S
 abbrev pub shown_size : ScreenItem → Option ℕ
 shown_size item =
     if is_some (screen_picture_text item.entry.clauses)
-    then (if is_unreadable item.row.spelled then None else Some item.row.size)
+    then (if is_unreadable item.row.spelled || item.signed then None else Some item.row.size)
     else Some (text_size (shown_text item.entry.clauses))
 
 -- where an item stands and how many bytes it shows

@@ -1,5 +1,5 @@
 -- Places of screen items as the code holds them.
-use Rattle.std.specs.Prelude.{◌≡◌, ℕ, ℤ, pos, int_lt, nat_lt, Bool, false, ◌&&◌, List, ◌++◌, reverse, take_while, Option, Some, None, is_some, if◌then◌else◌}
+use Rattle.std.specs.Prelude.{◌≡◌, ℕ, ℤ, pos, int_lt, nat_lt, Bool, false, ◌&&◌, ◌||◌, List, ◌++◌, reverse, take_while, Option, Some, None, is_some, if◌then◌else◌}
 use Rattle.cob_base.specs.declared.line.Line.{Line}
 use Rattle.cob_base.specs.declared.screen_entries.ScreenClause.{ScreenClause}
 use Rattle.cob_base.specs.declared.screen_entries.Position.{Position}
@@ -26,7 +26,7 @@ abbrev pub start : p.End
 start = p.start
 
 abbrev pub size_of_picture : ScreenItem → Option ℕ
-size_of_picture item = if is_unreadable item.row.spelled then None else Some item.row.size
+size_of_picture item = if is_unreadable item.row.spelled || item.signed then None else Some item.row.size
 
 abbrev pub or_given : Option Position → Option Position → Option Position
 or_given own given = or_next own given

@@ -117,7 +117,7 @@ fn column_after(
     }
 }
 
-/// The bytes that an item shows; None where its picture is none.
+/// The bytes that an item shows; None where its picture is refused.
 fn shown_size(item: &KnownScreen) -> Option<u64>
     ensures { result ≡ shown_size (seen_screen item.now) }
 {
@@ -135,10 +135,12 @@ fn size_of_picture(item: &KnownScreen) -> Option<u64>
     ensures { result ≡ seen.size_of_picture (seen_screen item.now) }
 {
     if is_unreadable(item.row.spelled) {
-        None
-    } else {
-        Some(item.row.size)
+        return None;
     }
+    if item.signed {
+        return None;
+    }
+    Some(item.row.size)
 }
 
 /// The place of an item for which these LINE and COLUMN count.

@@ -4,6 +4,6 @@
 mod connector;
 mod shape;
 
-pub use cob_base::{Access, LockMode, Sharing};
-pub use connector::{LockRule, OpenMode};
+pub use cob_base::{Access, LockMode, OpenMode, Sharing};
+pub use connector::LockRule;
 pub use shape::{KeyPlace, Shape};

@@ -7,6 +7,7 @@ use Rattle.std.specs.Prelude.{All}
 use Rattle.data_layout.specs.Layout.{IsInside}
 use Rattle.data_layout.specs.Storage.{storage}
 use Rattle.data_layout.proofs.PlacedRows.{SoFar, so_first, some_left, keeps_limit, can_place, placed_more, placed_all, total_is}
+use Rattle.data_layout.proofs.Occurrences.{tables_apart, each_inside}
 use Rattle.data_layout.proofs.placing.place.Goals as goal
 
 pub loop-at-init : goal.loop-at-init
@@ -36,8 +37,11 @@ returns c =
     let few : storage c.args.rows.now ≤ 1000000 = keeps_limit [] c.args.rows.now (omega arith) refl c.requires.faultless in
     let total = total_is c.args.rows.now c.loop-at.at c.loop-at.placing c.loop-at-test.false c.loop-at.invariant.0.placing_is few in
     let narrowed : c.narrow.result ≡ storage c.args.rows.now = c.narrow.ensures (omega (arith, total, few)) ∙ total in
+    let placed = placed_all c.args.rows.now c.args.texts.items _ c.loop-at.at c.loop-at.placing c.loop-at.items c.loop-at-test.false c.loop-at.invariant.0 in
     record {
-      items = placed_all c.args.rows.now c.args.texts.items _ c.loop-at.at c.loop-at.placing c.loop-at.items c.loop-at-test.false c.loop-at.invariant.0;
+      items = placed;
       total = narrowed;
       inside = subst (λ (n : ℕ). All (IsInside n) c.loop-at.items) (sym narrowed) c.loop-at.invariant.0.inside;
+      apart = tables_apart c.args.rows.now c.args.texts.items (record { items = c.loop-at.items; total = c.narrow.result }) placed c.requires.numbered c.requires.faultless;
+      each = each_inside c.args.rows.now c.args.texts.items _ placed c.requires.numbered c.requires.faultless narrowed;
     }

@@ -10,4 +10,4 @@ returns-in-Err-NoPicture c =
 pub returns-in-Err-TooWide : goal.returns-in-Err-TooWide
 returns-in-Err-TooWide c =
     let wide = rw c.in-Err-TooWide.field-0-is at c.in-Err-TooWide.ensures.too_wide in
-    ((c.in-Err-TooWide.field-0-0, c.in-Err-TooWide.size, c.in-Err-TooWide.signed, (wide c.in-Err-TooWide.field-0-0 c.in-Err-TooWide.size c.in-Err-TooWide.signed).0 refl, cc), refl)
+    ((c.in-Err-TooWide.field-0-0, c.in-Err-TooWide.size, c.in-Err-TooWide.signed, ((wide c.in-Err-TooWide.field-0-0 c.in-Err-TooWide.size c.in-Err-TooWide.signed c.in-Err-TooWide.field-0-3).0 refl).0, cc), refl)

@@ -4,7 +4,7 @@ use Rattle.std.proofs.lemmas.List.Elements.{All-map}
 use Rattle.std.proofs.lemmas.List.{length-map}
 use Rattle.data_layout.specs.Rows.{sections, picture_text}
 use Rattle.data_names.specs.Parts.{Source}
-use Rattle.data_names.specs.Items.{DataItem, IsTold, sources}
+use Rattle.data_names.specs.Items.{DataItem, IsTold, IsToldWhole, sources}
 use Rattle.data_names.specs.Seen.{seen_source, seen_item}
 use Rattle.data_names.proofs.Counted.{AreAllRows-length, length-sources}
 use Rattle.data_names.proofs.known.known_items.Goals as goal
@@ -29,4 +29,5 @@ returns c =
       rows = rw (map-map (λ (item : DataItem). item.row) seen_item items, map-map (λ (item : DataItem). item.text) seen_item items, made.rows, made.texts) c.requires;
       entries = map-map (λ (item : DataItem). item.source) seen_item items ∙ (made.sources ∙ (ap (map seen_source) c.as_slice.ensures.value ∙ from));
       told = All-map (λ (item : DataItem). IsTold (picture_text item.source.entry.clauses) item.kind item.signed) seen_item items made.told;
+      whole = All-map (λ (item : DataItem). IsToldWhole (picture_text item.source.entry.clauses) item.whole) seen_item items made.whole;
     }

@@ -38,7 +38,7 @@ returns c = λ before h.
         occurs = refl;
         twice = c.is_written_twice.ensures ∙ ap is_screen_clause_twice c.as_slice-clauses.ensures;
         read = subst (λ (some : Option _). IsRead some Inside c.in_ok-reading.reading.spelled c.in_ok-reading.reading.size c.in_ok-reading.reading.picture) text c.in_ok-reading.ensures;
-        told = (c.in_ok-told.told.kind, subst (λ (some : Option _). IsTold some c.in_ok-told.told.kind c.in_ok-told.told.signed) text c.in_ok-told.ensures);
+        told = (c.in_ok-told.told.kind, subst (λ (some : Option _). IsTold some c.in_ok-told.told.kind c.in_ok-told.told.signed) text c.in_ok-told.ensures.told);
       },
       record {
         level_fits_is = c.does_level_fit-level_fits.ensures rows h;

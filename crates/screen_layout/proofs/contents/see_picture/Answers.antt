@@ -15,4 +15,4 @@ returns-in-Err-NoPicture c = λ value.
 pub returns-in-Err-TooWide : goal.returns-in-Err-TooWide
 returns-in-Err-TooWide c = λ value.
     let wide = rw c.in-Err-TooWide.field-0-is at c.in-Err-TooWide.ensures.too_wide in
-    inr (inl (c.in-Err-TooWide.field-0-0, c.in-Err-TooWide.size, c.in-Err-TooWide.signed, (wide c.in-Err-TooWide.field-0-0 c.in-Err-TooWide.size c.in-Err-TooWide.signed).0 refl, c.size_unless.ensures, refl))
+    inr (inl (c.in-Err-TooWide.field-0-0, c.in-Err-TooWide.size, c.in-Err-TooWide.signed, ((wide c.in-Err-TooWide.field-0-0 c.in-Err-TooWide.size c.in-Err-TooWide.signed c.in-Err-TooWide.field-0-3).0 refl).0, c.size_unless.ensures, refl))

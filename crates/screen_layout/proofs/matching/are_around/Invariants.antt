@@ -1,6 +1,7 @@
 -- The qualifiers that are left stand around what is left exactly where all do.
 use Rattle.std.proofs.Common.{◌≡◌, ◌-◌, drop}
-use Rattle.screen_layout.specs.Names.{around, are_qualifiers}
+use Rattle.data_layout.specs.Occurrences.{around}
+use Rattle.screen_layout.specs.Names.{are_qualifiers}
 use Rattle.screen_layout.proofs.matching.are_around.Given as goal
 
 abbrev pub invariant-loop-step : goal.invariant-loop-step

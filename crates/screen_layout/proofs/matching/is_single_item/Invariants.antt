@@ -1,7 +1,7 @@
 -- What is left has no OCCURS exactly where all have none.
 use Rattle.std.proofs.Common.{◌≡◌, ◌-◌, ◌==◌, length, Some}
 use Rattle.std.specs.List.{list_all}
-use Rattle.screen_layout.specs.Names.{around}
+use Rattle.data_layout.specs.Occurrences.{around}
 use Rattle.screen_layout.proofs.matching.is_single_item.Given as goal
 
 abbrev pub invariant-loop-step : goal.invariant-loop-step

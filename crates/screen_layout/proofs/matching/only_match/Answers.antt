@@ -1,5 +1,6 @@
 use Rattle.std.proofs.Common.{sym}
-use Rattle.screen_layout.specs.Names.{matches, around_item}
+use Rattle.data_layout.specs.Occurrences.{around_item}
+use Rattle.screen_layout.specs.Names.{matches}
 use Rattle.screen_layout.proofs.NamedItems.{two_found}
 use Rattle.screen_layout.proofs.matching.only_match.Goals as goal
 

@@ -2,7 +2,8 @@
 use Rattle.std.proofs.Common.{◌≡◌, take}
 use Rattle.std.specs.Prelude.{filter}
 use Rattle.std.specs.Option.{option_to_list}
-use Rattle.screen_layout.specs.Names.{matches, around_item}
+use Rattle.data_layout.specs.Occurrences.{around_item}
+use Rattle.screen_layout.specs.Names.{matches}
 use Rattle.screen_layout.proofs.matching.only_match.Given as goal
 
 abbrev pub invariant-loop-number : goal.invariant-loop-number

@@ -1,7 +1,8 @@
 use Rattle.std.proofs.Common.{◌≡◌, ◌<◌, ◌∙◌, ap, sym, subst, inl, inr, ℕ, List, length, get_or, Option}
 use Rattle.std.specs.Prelude.{filter}
 use Rattle.data_layout.specs.declared.layout.Item.{Item}
-use Rattle.screen_layout.specs.Names.{matches, around_item, numbers_where}
+use Rattle.data_layout.specs.Occurrences.{around_item}
+use Rattle.screen_layout.specs.Names.{matches, numbers_where}
 use Rattle.screen_layout.specs.NameTable.{in_small, numbers_under}
 use Rattle.screen_layout.specs.NamePairs.{in_pair, is_pair_of, list_under, IsList}
 use Rattle.screen_layout.specs.Directory.{AreCandidates}

@@ -1,7 +1,7 @@
 -- With the groups that are left the numbers are those with all groups.
 use Rattle.std.proofs.Common.{◌≡◌, ◌-◌, ℕ, List}
 use Rattle.std.specs.Option.{option_map}
-use Rattle.screen_layout.specs.Names.{around}
+use Rattle.data_layout.specs.Occurrences.{around}
 use Rattle.screen_layout.specs.NamePairs.{list_under, noted}
 use Rattle.screen_layout.proofs.pairs.Pairs.note_groups.Given as goal
 

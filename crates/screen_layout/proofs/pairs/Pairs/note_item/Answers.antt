@@ -1,6 +1,6 @@
 use Rattle.std.proofs.Common.{◌∙◌, ap, length, ◌-◌, ℕ, List}
 use Rattle.std.specs.Option.{option_map}
-use Rattle.screen_layout.specs.Names.{around}
+use Rattle.data_layout.specs.Occurrences.{around}
 use Rattle.screen_layout.specs.NamePairs.{list_under, noted}
 use Rattle.screen_layout.proofs.PairLists.{item_noted, item_unnamed}
 use Rattle.screen_layout.proofs.pairs.Pairs.note_item.Goals as goal

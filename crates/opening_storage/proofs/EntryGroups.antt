@@ -1,5 +1,5 @@
--- What the rows of a program's entries are like: numbered in order, and groups exactly where members follow.
-use Rattle.std.proofs.Common.{◌≡◌, ℕ, ◌+◌, ◌&&◌, sym, ◌∙◌, ap, subst, arith, Bool, true, false, List, [], ◌∷◌, ◌++◌, length}
+-- Which rows of a program's entries are groups: those that members follow.
+use Rattle.std.proofs.Common.{◌≡◌, ℕ, ◌+◌, ◌&&◌, sym, ◌∙◌, ap, subst, Bool, true, false, List, [], ◌∷◌, ◌++◌, length}
 use Rattle.std.specs.Prelude.{not, nat_lt}
 use Rattle.cob_base.specs.declared.data_entries.DataEntry.{DataEntry}
 use Rattle.cob_base.specs.declared.data_entries.DataEntry.TheVariants.{Item, Condition}
@@ -8,27 +8,6 @@ use Rattle.data_layout.specs.declared.row.Described.{Described}
 use Rattle.data_layout.specs.Rows.{rank, next_level, is_above, AreRows, AreAllRows, Section}
 use Rattle.data_layout.specs.Storage.{goes_on}
 use Rattle.opening_storage.proofs.Groups.{not_both}
-
--- ---- numbers
-
-abbrev pub NumberedFrom : ℕ → List Row → Type 0
-NumberedFrom n [] = Unit {0}
-NumberedFrom n (row ∷ rows) = (row.number ≡ n) × NumberedFrom (n + 1) rows
-
-join_numbers : (n : ℕ) (a b : List Row) → NumberedFrom n a → NumberedFrom (n + length a) b → NumberedFrom n (a ++ b)
-join_numbers n [] b h k = let e : n + 0 ≡ n = omega arith in subst (λ m. NumberedFrom m b) e k
-join_numbers n (row ∷ a) b h k =
-    let e : n + length (row ∷ a) ≡ (n + 1) + length a = omega arith in (h.0, join_numbers (n + 1) a b h.1 (subst (λ m. NumberedFrom m b) e k))
-
-numbered_rows : (in_file starts : Bool) (n : ℕ) (entries : List DataEntry) (rows : List Row) (texts : List Described) → AreRows in_file starts n entries rows texts → NumberedFrom n rows
-numbered_rows in_file starts n [] rows texts h = subst (NumberedFrom n) (sym h.0) tt
-numbered_rows in_file starts n (Condition entry ∷ rest) rows texts h = numbered_rows in_file starts n rest rows texts h
-numbered_rows in_file starts n (Item entry ∷ rest) rows texts h = subst (NumberedFrom n) (sym h.6) (h.4.number, numbered_rows in_file false (n + 1) rest h.2 h.3 h.5)
-
-pub numbered_all : (n : ℕ) (all : List Section) (rows : List Row) (texts : List Described) → AreAllRows n all rows texts → NumberedFrom n rows
-numbered_all n [] rows texts h = subst (NumberedFrom n) (sym h.0) tt
-numbered_all n (section ∷ others) rows texts h =
-    subst (NumberedFrom n) (sym h.6) (join_numbers n h.0 h.2 (numbered_rows section.in_file true n section.entries h.0 h.1 h.4) (numbered_all (n + length h.0) others h.2 h.3 h.5))
 
 -- ---- groups
 
