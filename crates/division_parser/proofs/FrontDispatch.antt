@@ -8,6 +8,8 @@ use Rattle.cob_base.specs.EntryForm.{Entries, begins}
 use Rattle.cob_base.specs.EntryForm.EntryForm.{entry}
 use Rattle.cob_base.specs.Phrases.{key, noise, name}
 use Rattle.cob_base.specs.FileEntries.{select}
+use Rattle.cob_base.specs.DataEntries.{level}
+use Rattle.cob_base.specs.ScreenEntries.{screen_entry}
 use Rattle.cob_base.specs.Front.{header, header_of_two, name_entry, computer, special_names, configuration, file_control, input_output, environment, fd_entry, file_section, working_storage, screen_section, data_division}
 
 pub begins_computer_is : (paragraph : Keyword) (es : Entries) → begins (computer paragraph) es ≡ begins (entry (λ line. header paragraph)) es
@@ -23,6 +25,10 @@ pub opens_fd_is : (line : Line) (w : Words) → opens (fd_entry line) w ≡ open
 unfolding fd_entry name_entry name
 opens_fd_is line [] = refl
 opens_fd_is line (v ∷ w) = refl
+
+pub opens_screen_entry_is : (line : Line) (w : Words) → opens (screen_entry line) w ≡ opens level w
+unfolding screen_entry level
+opens_screen_entry_is line w = refl
 
 pub begins_special_names_is : (es : Entries) → begins special_names es ≡ begins (entry (λ line. header k.SpecialNames)) es
 unfolding special_names

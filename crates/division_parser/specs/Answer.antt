@@ -29,8 +29,8 @@ Answers entries (Err (faults.Nesting line)) = StopsAs entries Nesting line
 Answers entries (Err (faults.NoEntry line)) = StopsAs entries NoFit line
 Answers entries (Err faults.NoMemory) = Unit {0}
 
--- entries read as one front at most, and they stop at one place for one reason at most, and never both
+-- entries read as one front at most, and they stop at one place for one reason at most, and never both; a place is all that is left from there on
 pub record IsDefinite : Type 0 where
   pub one_front : (es rest more : Entries) (first second : Front) → Reads front es first rest → Reads front es second more → (first ≡ second) × (rest ≡ more)
-  pub one_stop : (es at place : Entries) (first second : Misfit) → Stops front first at es → Stops front second place es → (first ≡ second) × (line_of_stop es at ≡ line_of_stop es place)
+  pub one_stop : (es at place : Entries) (first second : Misfit) → Stops front first at es → Stops front second place es → (first ≡ second) × (at ≡ place)
   pub never_both : (es rest at : Entries) (read : Front) (reason : Misfit) → Reads front es read rest → ¬ (Stops front reason at es)

@@ -1,27 +1,39 @@
 //! The data division.
 
 ghost use Rattle.std.specs.Prelude.{◌≡◌};
+ghost use Rattle.cob_base.specs.DataEntries as data_entries;
 ghost use Rattle.cob_base.specs.EntryForm.EntryForm.{entry, optional, some};
 ghost use Rattle.cob_base.specs.EntryForm.{begins, many};
 ghost use Rattle.cob_base.specs.Front as front;
+ghost use Rattle.cob_base.specs.ScreenEntries as screen_entries;
 ghost use Rattle.phrase_parser.specs.EntryReading.{EntryGives, read_entries};
 ghost use Rattle.phrase_parser.specs.Reading.{Gives, read};
 
-use crate::data_entries::{data_entry, opens_data_entry, opens_level};
 use crate::headers::{begins_section, name_words, section_header};
-use crate::screen_entries::screen_entry;
 use cob_base::{
     ByteText, DataDivision, DataEntry, FileDescription, Items, Keyword, Line, ScreenEntry,
     SeenEntry, Token,
 };
+use entry_parser::{data_entry, opens_data_entry, opens_level, screen_entry};
 use phrase_parser::{EntryFault, PhraseFault, entry, expect, many_entries, next_is, some_entries};
 use std::alloc::Global;
+
+/// A data description entry, as a member of a list.
+fn one_data_entry(
+    alloc: Global,
+    line: Line,
+    words: &[Token],
+) -> Result<(DataEntry, &[Token]), PhraseFault>
+    ensures { Gives (λ x. (x.0, x.1.now)) result (read (data_entries.data_entry line) words.now) }
+{
+    data_entry(alloc, line, words)
+}
 
 #[tactic(auto, unfolding(cob_base::specs::Front::item))]
 fn item(alloc: Global, entries: &[SeenEntry]) -> Result<(DataEntry, &[SeenEntry]), EntryFault>
     ensures { EntryGives (λ x. (x.0, x.1.now)) result (read_entries front.item entries.now) }
 {
-    entry(alloc, &data_entry, entries)
+    entry(alloc, &one_data_entry, entries)
 }
 
 /// Whether the next entry begins with a level or with 88.
@@ -53,15 +65,26 @@ fn some_items(
     some_entries(alloc, &begins_item, &item, entries)
 }
 
+/// A screen description entry, as a member of a list.
+fn one_screen_entry(
+    alloc: Global,
+    line: Line,
+    words: &[Token],
+) -> Result<(ScreenEntry, &[Token]), PhraseFault>
+    ensures { Gives (λ x. (x.0, x.1.now)) result (read (screen_entries.screen_entry line) words.now) }
+{
+    screen_entry(alloc, line, words)
+}
+
 #[tactic(auto, unfolding(cob_base::specs::Front::screen))]
 fn screen(alloc: Global, entries: &[SeenEntry]) -> Result<(ScreenEntry, &[SeenEntry]), EntryFault>
     ensures { EntryGives (λ x. (x.0, x.1.now)) result (read_entries front.screen entries.now) }
 {
-    entry(alloc, &screen_entry, entries)
+    entry(alloc, &one_screen_entry, entries)
 }
 
 /// Whether the next entry begins with a level.
-#[tactic(auto, unfolding(cob_base::specs::Front::screen), using(crate::proofs::ScreenDispatch::opens_screen_entry_is))]
+#[tactic(auto, unfolding(cob_base::specs::Front::screen), using(crate::proofs::FrontDispatch::opens_screen_entry_is))]
 fn begins_screen(entries: &[SeenEntry]) -> bool
     ensures { result ≡ begins front.screen entries.now }
 {

@@ -71,7 +71,8 @@ pub fn parse_front(alloc: Global, entries: &[Entry]) -> Result<FrontRead, ParseF
     }
 }
 
-/// A list of entries reads as one front at most, and stops at one place for one reason at most.
+/// A list of entries reads as one front at most, or stops at one place, with the same entries left, for one reason at most, and
+/// never both.
 pub fn fronts_are_definite()
     ensures { IsDefinite }
 {}

@@ -2,15 +2,15 @@
 #![tactic(auto)]
 
 mod data_division;
-mod data_entries;
 mod environment_division;
 mod file_clauses;
 mod fronts;
 mod headers;
-mod item_clauses;
-mod screen_clauses;
-mod screen_entries;
 #[cfg(test)]
 mod tests;
+#[cfg(test)]
+mod tests_entries;
+#[cfg(test)]
+mod tests_fronts;
 
 pub use fronts::{FrontRead, fronts_are_definite, parse_front};

@@ -1,5 +1,5 @@
 -- Reading a form of entries gives what they read as, and stops where they stop: once for all forms.
-use Rattle.std.proofs.Common.{◌≡◌, ℕ, zero, suc, ◌≤◌, ◌<◌, ◌⊎◌, inl, inr, Bool, true, false, cond, List, [], ◌∷◌, length, Option, Some, None, Ok, Err, ◌++◌, append_assoc, refl, sym, ap, ◌∙◌, arith}
+use Rattle.std.proofs.Common.{◌≡◌, ℕ, zero, suc, ◌≤◌, ◌<◌, ◌⊎◌, inl, inr, Bool, true, false, cond, List, [], ◌∷◌, length, Option, Some, None, Ok, Err, ◌++◌, append_assoc, refl, sym, ap, subst, ◌∙◌, arith}
 use Rattle.std.specs.Prelude.{not, ◌||◌, ◌&&◌}
 use Rattle.cob_base.specs.declared.parse_fault.Misfit.{Misfit}
 use Rattle.cob_base.specs.declared.parse_fault.Misfit.TheVariants.{Nesting, NoFit}
@@ -247,7 +247,7 @@ finds (EntryForm.some f) reason at es (inl d) = finds_first (begins f) (Reads f)
 finds (EntryForm.some f) reason at es (inr d) =
     finds_later (begins f) (Reads f) (Stops f reason at) (read_entries f) (reason, line_at at) (takes f) (reads f) (finds f reason at) (begins_entries f) es d.0 d.1 d.2 d.3
 
--- ---- so entries read as one thing at most, and not where they stop
+-- ---- so entries read as one thing at most, or stop at one place for one reason at most, and never both
 
 first_is : {A : Type 0} (a b : A) (v w : Entries) (r : EntryOutcome A) → r ≡ Ok (a, v) → r ≡ Ok (b, w) → (a ≡ b) × (v ≡ w)
 first_is a b v w r e f =
@@ -261,14 +261,49 @@ pub never_both : {b : Bool} {A : Type 0} (f : EntryForm b A) (es : Entries) (x :
 never_both f es x rest reason at p d =
     let two : ◌≡◌ {A = EntryOutcome _} (Ok (x, rest)) (Err (reason, line_at at)) = sym (reads f es x rest p) ∙ finds f reason at es d in cc
 
+-- two stops of one list of entries: both are where the part before fits, and what stands there does not
+module _ {A : Type 0} (begun : Entries → Bool) (Is : Entries → A → Entries → Type 0) (StopsOne StopsOther : Entries → Type 0) (at place : Entries)
+    (one_rest : (es : Entries) (x y : A) (v u : Entries) → Is es x v → Is es y u → (x ≡ y) × (v ≡ u))
+    (never_one : (es : Entries) (x : A) (rest : Entries) → Is es x rest → ¬ (StopsOne es))
+    (never_other : (es : Entries) (x : A) (rest : Entries) → Is es x rest → ¬ (StopsOther es))
+    (part : (es : Entries) → StopsOne es → StopsOther es → at ≡ place) where
+  place_more : {es : Entries} → StopsMore begun Is StopsOne es → StopsMore begun Is StopsOther es → at ≡ place
+  place_more (StopsMore.next {es = es} e d) (StopsMore.next b c) = part es d c
+  place_more (StopsMore.next {es = es} e d) (StopsMore.later {x = y} {mid = far} b t c) = absurd (never_one es y far t d)
+  place_more (StopsMore.later {x = x} {es = es} {mid = mid} e s d) (StopsMore.next b c) = absurd (never_other es x mid s c)
+  place_more (StopsMore.later {x = x} {es = es} {mid = mid} e s d) (StopsMore.later {x = y} {mid = far} b t c) =
+      place_more d (subst (λ v. StopsMore begun Is StopsOther v) (sym (one_rest es x y mid far s t).1) c)
+
+one_place : {b : Bool} {A : Type 0} (f : EntryForm b A) (es : Entries) (reason other : Misfit) (at place : Entries) → Stops f reason at es → Stops f other place es → at ≡ place
+one_place (EntryForm.entry f) es reason other at place p q = sym p.1 ∙ q.1
+one_place (EntryForm.both f g) es reason other at place (inl p) (inl q) = one_place f es reason other at place p q
+one_place (EntryForm.both f g) es reason other at place (inl p) (inr q) = absurd (never_both f es q.0 q.1 reason at q.2 p)
+one_place (EntryForm.both f g) es reason other at place (inr p) (inl q) = absurd (never_both f es p.0 p.1 other place p.2 q)
+one_place (EntryForm.both f g) es reason other at place (inr p) (inr q) =
+    one_place g p.1 reason other at place p.3 (subst (Stops g other place) (sym (one_tree f es p.0 q.0 p.1 q.1 p.2 q.2).1) q.3)
+one_place (EntryForm.after f g) es reason other at place (inl p) (inl q) = one_place f es reason other at place p q
+one_place (EntryForm.after f g) es reason other at place (inl p) (inr q) = absurd (never_both f es q.0 q.1 reason at q.2 p)
+one_place (EntryForm.after f g) es reason other at place (inr p) (inl q) = absurd (never_both f es p.0 p.1 other place p.2 q)
+one_place (EntryForm.after f g) es reason other at place (inr p) (inr q) =
+    one_place g p.1 reason other at place p.3 (subst (Stops g other place) (sym (one_tree f es p.0 q.0 p.1 q.1 p.2 q.2).1) q.3)
+one_place (EntryForm.made h f) es reason other at place p q = one_place f es reason other at place p q
+one_place (EntryForm.optional f) es reason other at place p q = one_place f es reason other at place p.1 q.1
+one_place (EntryForm.some f) es reason other at place (inl p) (inl q) = one_place f es reason other at place p q
+one_place (EntryForm.some f) es reason other at place (inl p) (inr q) = absurd (never_both f es q.0 q.1 reason at q.2 p)
+one_place (EntryForm.some f) es reason other at place (inr p) (inl q) = absurd (never_both f es p.0 p.1 other place p.2 q)
+one_place (EntryForm.some f) es reason other at place (inr p) (inr q) =
+    place_more (begins f) (Reads f) (Stops f reason at) (Stops f other place) at place (one_tree f) (λ v x rest s d. never_both f v x rest reason at s d) (λ v x rest s d. never_both f v x rest other place s d)
+    (λ v c d. one_place f v reason other at place c d)
+    p.3 (subst (StopsMore (begins f) (Reads f) (Stops f other place)) (sym (one_tree f es p.0 q.0 p.1 q.1 p.2 q.2).1) q.3)
+
 stop_is : {A : Type 0} (s t : Stop) (r : EntryOutcome A) → r ≡ Err s → r ≡ Err t → s ≡ t
 stop_is s t r e f = cc
 
 pub one_stop : {b : Bool} {A : Type 0} (f : EntryForm b A) (es : Entries) (reason other : Misfit) (at place : Entries) → Stops f reason at es → Stops f other place es
-    → (reason ≡ other) × (line_at at ≡ line_at place)
+    → (reason ≡ other) × (at ≡ place)
 one_stop f es reason other at place p q =
     let same_stop : ◌≡◌ {A = Stop} (reason, line_at at) (other, line_at place) = stop_is _ _ (read_entries f es) (finds f reason at es p) (finds f other place es q) in
-    (ap (λ x. x.0) same_stop, ap (λ x. x.1) same_stop)
+    (ap (λ x. x.0) same_stop, one_place f es reason other at place p q)
 
 -- ---- the rest are the last of the entries
 

@@ -53,22 +53,16 @@ answers_fault entries NoFit line h = let s = stops (map seen_entry entries) NoFi
 -- ---- one reading or one stop
 
 module _ {b : Bool} {A : Type 0} (f : EntryForm b A) (es : Entries) where
-  line-of : (at place : Entries) → laws.line_at at ≡ laws.line_at place → line_of_stop es at ≡ line_of_stop es place
-  line-of at place same = sym (line-at-is es at) ∙ ap (line_or_last es) same ∙ line-at-is es place
-
-  stops-once : (first second : Misfit) (at place : Entries) → Stops f first at es → Stops f second place es → (first ≡ second) × (line_of_stop es at ≡ line_of_stop es place)
-  stops-once first second at place p q = let same = laws.one_stop f es first second at place p q in (same.0, line-of at place same.1)
-
-  one-stop : (first second : Misfit) (at place : Entries) → StopsWhole f first at es → StopsWhole f second place es → (first ≡ second) × (line_of_stop es at ≡ line_of_stop es place)
-  one-stop Nesting Nesting at place p q = stops-once Nesting Nesting at place p q
-  one-stop Nesting NoFit at place p (inl q) = stops-once Nesting NoFit at place p q
+  one-stop : (first second : Misfit) (at place : Entries) → StopsWhole f first at es → StopsWhole f second place es → (first ≡ second) × (at ≡ place)
+  one-stop Nesting Nesting at place p q = laws.one_stop f es Nesting Nesting at place p q
+  one-stop Nesting NoFit at place p (inl q) = laws.one_stop f es Nesting NoFit at place p q
   one-stop Nesting NoFit at place p (inr q) = absurd (laws.never_both f es q.0 place Nesting at q.1 p)
-  one-stop NoFit Nesting at place (inl p) q = stops-once NoFit Nesting at place p q
+  one-stop NoFit Nesting at place (inl p) q = laws.one_stop f es NoFit Nesting at place p q
   one-stop NoFit Nesting at place (inr p) q = absurd (laws.never_both f es p.0 at Nesting place p.1 q)
-  one-stop NoFit NoFit at place (inl p) (inl q) = stops-once NoFit NoFit at place p q
+  one-stop NoFit NoFit at place (inl p) (inl q) = laws.one_stop f es NoFit NoFit at place p q
   one-stop NoFit NoFit at place (inl p) (inr q) = absurd (laws.never_both f es q.0 place NoFit at q.1 p)
   one-stop NoFit NoFit at place (inr p) (inl q) = absurd (laws.never_both f es p.0 at NoFit place p.1 q)
-  one-stop NoFit NoFit at place (inr p) (inr q) = (refl, ap (line_of_stop es) (laws.one_tree f es p.0 q.0 at place p.1 q.1).1)
+  one-stop NoFit NoFit at place (inr p) (inr q) = (refl, (laws.one_tree f es p.0 q.0 at place p.1 q.1).1)
 
   never-both : (at : Entries) (read : A) (reason : Misfit) → Reads f es read [] → ¬ (StopsWhole f reason at es)
   never-both at read Nesting p s = laws.never_both f es read [] Nesting at p s

@@ -23,9 +23,9 @@ Answers entries (Err (faults.Nesting line)) = StopsAs entries Nesting line
 Answers entries (Err (faults.NoEntry line)) = StopsAs entries NoFit line
 Answers entries (Err faults.NoMemory) = Unit {0}
 
--- Entries read whole as one thing at most, and else they stop at one place for one reason at most, and never both.
+-- Entries read whole as one thing at most, and else they stop at one place for one reason at most, and never both. A place is all that is left from there on.
 pub record IsDefinite {b : Bool} {A : Type 0} (f : EntryForm b A) : Type 0 where
   pub one_reading : (es : Entries) (first second : A) → Reads f es first [] → Reads f es second [] → first ≡ second
   pub one_stop : (es at place : Entries) (first second : Misfit) → StopsWhole f first at es → StopsWhole f second place es
-      → (first ≡ second) × (line_of_stop es at ≡ line_of_stop es place)
+      → (first ≡ second) × (at ≡ place)
   pub never_both : (es at : Entries) (read : A) (reason : Misfit) → Reads f es read [] → ¬ (StopsWhole f reason at es)

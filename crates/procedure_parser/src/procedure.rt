@@ -318,7 +318,7 @@ pub fn parse_procedure(alloc: Global, entries: &[Entry]) -> Result<Procedure, Pa
 }
 
 /// A list of entries reads as one procedure division at most, and as one program at most; where it does not, it stops at one
-/// place, for one reason; and never both.
+/// place, with the same entries left, for one reason; and never both.
 pub fn programs_are_definite()
     ensures procedures { IsDefinite grammar.procedure }
     ensures programs { IsDefinite grammar.program }

@@ -1,7 +1,7 @@
 //! More sentences worked out by hand, and other entries of a procedure division: the words, and how many of the first of them
 //! are an entry when a period follows.
 
-pub const FILES_AND_SCREENS: [(&str, &[usize]); 75] = [
+pub const FILES_AND_SCREENS: [(&str, &[usize]); 80] = [
     ("OPEN INPUT F", &[3]),
     ("OPEN I-O F G OUTPUT H", &[3, 4, 6]),
     ("OPEN OUTPUT SHARING WITH ALL OTHER F", &[7]),
@@ -79,6 +79,7 @@ pub const FILES_AND_SCREENS: [(&str, &[usize]); 75] = [
     ("START F KEY K", &[2]),
     ("START F KEY GREATER THAN OR EQUAL TO K OF R", &[2, 9, 11]),
     ("START F NOT INVALID KEY CONTINUE", &[2, 6]),
+    ("START F INVALID CONTINUE", &[2, 4]),
     ("WRITE R", &[2]),
     ("WRITE R FROM A", &[2, 4]),
     (
@@ -89,6 +90,7 @@ pub const FILES_AND_SCREENS: [(&str, &[usize]); 75] = [
     ("WRITE R LOCK RETRY FOREVER", &[2, 3]),
     ("WRITE R NOT INVALID CONTINUE", &[2, 5]),
     ("REWRITE R", &[2]),
+    ("REWRITE R INVALID KEY CONTINUE", &[2, 5]),
     (
         "REWRITE R FROM \"X\" RETRY FOR A SECONDS LOCK",
         &[2, 4, 8, 9],
@@ -103,6 +105,9 @@ pub const FILES_AND_SCREENS: [(&str, &[usize]); 75] = [
         &[2, 3, 5, 8, 9],
     ),
     ("DELETE F LOCK", &[2]),
+    ("DELETE F RETRY 3 TIMES", &[2, 5]),
+    ("DELETE F INVALID CONTINUE", &[2, 4]),
+    ("DELETE F NOT INVALID CONTINUE", &[2, 5]),
     ("UNLOCK F", &[2]),
     ("UNLOCK F RECORD", &[2, 3]),
     ("UNLOCK F RECORDS", &[2, 3]),

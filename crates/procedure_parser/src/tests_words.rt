@@ -1,7 +1,7 @@
 //! Sentences worked out by hand from the rules of the language: the words, and how many of the first of them are an entry
 //! of a procedure division when a period follows.
 
-pub const ARITHMETIC: [(&str, &[usize]); 88] = [
+pub const ARITHMETIC: [(&str, &[usize]); 92] = [
     ("MOVE A TO B", &[4]),
     ("MOVE A TO B C", &[4, 5]),
     ("MOVE 5 TO B", &[4]),
@@ -69,6 +69,8 @@ pub const ARITHMETIC: [(&str, &[usize]); 88] = [
         "MULTIPLY A BY B SIZE ERROR CONTINUE END-MULTIPLY",
         &[4, 7, 8],
     ),
+    ("MULTIPLY A BY B ON SIZE ERROR CONTINUE", &[4, 8]),
+    ("MULTIPLY A BY B NOT SIZE ERROR CONTINUE", &[4, 8]),
     ("DIVIDE A INTO B", &[4]),
     ("DIVIDE A INTO B C", &[4, 5]),
     ("DIVIDE A INTO B GIVING C", &[4, 6]),
@@ -78,6 +80,7 @@ pub const ARITHMETIC: [(&str, &[usize]); 88] = [
     ("DIVIDE A INTO 5", &[]),
     ("DIVIDE A BY 5 GIVING C D END-DIVIDE", &[6, 7, 8]),
     ("DIVIDE A INTO B REMAINDER C", &[4, 5, 6]),
+    ("DIVIDE A INTO B SIZE ERROR CONTINUE", &[4, 7]),
     (
         "DIVIDE A BY B GIVING C NOT ON SIZE ERROR CONTINUE",
         &[6, 11],
@@ -100,6 +103,7 @@ pub const ARITHMETIC: [(&str, &[usize]); 88] = [
         "COMPUTE A = B ON SIZE ERROR CONTINUE END-COMPUTE",
         &[4, 8, 9],
     ),
+    ("COMPUTE A = B NOT SIZE ERROR CONTINUE", &[4, 8]),
     ("COMPUTE A = B * ( C - D", &[4]),
     ("COMPUTE = B", &[]),
     ("COMPUTE A = 3.5 - -2", &[4, 6]),

@@ -3,8 +3,8 @@ use Rattle.cob_base.specs.Form.{opens}
 use Rattle.cob_base.specs.Form.Form.{some}
 use Rattle.cob_base.specs.DataEntries.{item_clause}
 use Rattle.phrase_parser.specs.Reading.{read, read_many}
-use Rattle.division_parser.proofs.DataDispatch.{opens_item_clauses_is}
-use Rattle.division_parser.proofs.data_entries.item_clauses.Goals as goal
+use Rattle.entry_parser.proofs.DataDispatch.{opens_item_clauses_is}
+use Rattle.entry_parser.proofs.data_entries.item_clauses.Goals as goal
 
 pub returns : goal.returns
 unfolding read_many

@@ -1,13 +1,12 @@
 -- At which words the clauses of screen description entries open.
 use Rattle.std.proofs.Common.{◌≡◌, [], ◌∷◌, refl}
-use Rattle.cob_base.specs.declared.line.Line.{Line}
 use Rattle.cob_base.specs.declared.keywords.Keyword.TheVariants as k
 use Rattle.cob_base.specs.declared.tokens.Token.TheVariants.{Key}
 use Rattle.cob_base.specs.Form.Form.{some}
 use Rattle.cob_base.specs.Form.{Words, opens}
 use Rattle.cob_base.specs.Phrases.{key, noise, same_key, int, reference, operand}
-use Rattle.cob_base.specs.DataEntries.{level, picture}
-use Rattle.cob_base.specs.ScreenEntries.{blank, erase, position, line_clause, column, value, picture_clause, from, to, using_item, screen_mark, foreground, background, outside_screen, screen_clause, screen_entry}
+use Rattle.cob_base.specs.DataEntries.{picture}
+use Rattle.cob_base.specs.ScreenEntries.{blank, erase, position, line_clause, column, value, picture_clause, from, to, using_item, screen_mark, foreground, background, outside_screen, screen_clause}
 use Rattle.phrase_parser.specs.Reading.{read, is_read}
 
 pub opens_blank_is : (w : Words) → opens blank w ≡ is_read (read blank w)
@@ -92,7 +91,3 @@ opens_outside_is _ = refl
 pub opens_screen_clauses_is : (w : Words) → opens screen_clause w ≡ opens (some screen_clause) w
 unfolding screen_clause
 opens_screen_clauses_is w = refl
-
-pub opens_screen_entry_is : (line : Line) (w : Words) → opens (screen_entry line) w ≡ opens level w
-unfolding screen_entry level
-opens_screen_entry_is line w = refl

@@ -1,0 +1,93 @@
+//! Entries of the environment division, worked out by hand from the rules of the language: the words of each, and how
+//! many of the first of them are an entry when a period follows.
+
+/// Entries after SPECIAL-NAMES.
+pub const SPECIAL_NAMES_ENTRIES: [(&str, &[usize]); 4] = [
+    ("CRT STATUS IS K", &[4]),
+    ("CRT STATUS K", &[3]),
+    ("CRT STATUS IS K K", &[4]),
+    ("CRT IS K", &[]),
+];
+
+/// Entries after FILE-CONTROL.
+pub const FILE_ENTRIES: [(&str, &[usize]); 58] = [
+    ("SELECT F ASSIGN TO F", &[5]),
+    ("SELECT OPTIONAL F ASSIGN \"X\"", &[5]),
+    ("SELECT OPTIONAL F ASSIGN TO X", &[6]),
+    ("SELECT F ASSIGN TO \"A\" B", &[5]),
+    ("SELECT F ASSIGN F ORGANIZATION IS INDEXED", &[4, 7]),
+    ("SELECT F ASSIGN F ORGANIZATION INDEXED", &[4, 6]),
+    ("SELECT F ASSIGN F INDEXED", &[4, 5]),
+    (
+        "SELECT F ASSIGN F ORGANIZATION IS RELATIVE KEY R",
+        &[4, 7, 8, 9],
+    ),
+    ("SELECT F ASSIGN F ORGANIZATION SEQUENTIAL", &[4, 6]),
+    ("SELECT F ASSIGN F LINE SEQUENTIAL", &[4, 5, 6]),
+    ("SELECT F ASSIGN F PADDING CHARACTER \"X\"", &[4, 5, 6, 7]),
+    ("SELECT F ASSIGN F RESERVE 2 AREAS", &[4, 5, 6, 7]),
+    ("SELECT F ASSIGN F SEQUENTIAL ACCESS RANDOM", &[4, 5, 6, 7]),
+    ("SELECT F ASSIGN F RELATIVE", &[4, 5]),
+    ("SELECT F ASSIGN F ORGANIZATION IS ACCESS", &[4]),
+    ("SELECT F ASSIGN F ACCESS MODE IS SEQUENTIAL", &[4, 8]),
+    ("SELECT F ASSIGN F ACCESS MODE RANDOM", &[4, 7]),
+    ("SELECT F ASSIGN F ACCESS IS DYNAMIC", &[4, 7]),
+    ("SELECT F ASSIGN F ACCESS RANDOM", &[4, 6]),
+    ("SELECT F ASSIGN F ACCESS MODE IS MANUAL", &[4]),
+    ("SELECT F ASSIGN F RECORD KEY IS K", &[4, 8]),
+    ("SELECT F ASSIGN F RECORD KEY K", &[4, 7]),
+    ("SELECT F ASSIGN F RECORD IS K", &[4, 7]),
+    ("SELECT F ASSIGN F RECORD K", &[4, 6]),
+    ("SELECT F ASSIGN F RECORD K OF R IN F", &[4, 6, 8, 10]),
+    ("SELECT F ASSIGN F RECORD KEY IS K ( 1 )", &[4, 8, 11]),
+    ("SELECT F ASSIGN F RECORD K ( I OF G + 2 )", &[4, 6, 13]),
+    ("SELECT F ASSIGN F RECORD K ( I - 1 )", &[4, 6, 11]),
+    ("SELECT F ASSIGN F RECORD K ( -1 )", &[4, 6]),
+    ("SELECT F ASSIGN F RECORD K ( 1.5 )", &[4, 6]),
+    ("SELECT F ASSIGN F RECORD \"K\"", &[4]),
+    (
+        "SELECT F ASSIGN F ALTERNATE RECORD KEY IS A WITH DUPLICATES",
+        &[4, 9, 11],
+    ),
+    ("SELECT F ASSIGN F ALTERNATE A DUPLICATES", &[4, 6, 7]),
+    ("SELECT F ASSIGN F ALTERNATE KEY A", &[4, 7]),
+    ("SELECT F ASSIGN F ALTERNATE RECORD A", &[4, 7]),
+    ("SELECT F ASSIGN F ALTERNATE IS A WITH", &[4, 7]),
+    ("SELECT F ASSIGN F FILE STATUS IS S", &[4, 8]),
+    ("SELECT F ASSIGN F STATUS S", &[4, 6]),
+    ("SELECT F ASSIGN F FILE STATUS S", &[4, 7]),
+    ("SELECT F ASSIGN F STATUS IS S", &[4, 7]),
+    ("SELECT F ASSIGN F FILE S", &[4]),
+    (
+        "SELECT F ASSIGN F LOCK MODE IS MANUAL WITH LOCK ON MULTIPLE RECORDS",
+        &[4, 8, 13],
+    ),
+    (
+        "SELECT F ASSIGN F LOCK AUTOMATIC LOCK ON RECORD",
+        &[4, 6, 9],
+    ),
+    (
+        "SELECT F ASSIGN F LOCK MODE MANUAL LOCK ON MULTIPLE RECORD",
+        &[4, 7, 11],
+    ),
+    (
+        "SELECT F ASSIGN F LOCK IS AUTOMATIC WITH LOCK ON RECORDS",
+        &[4, 7, 11],
+    ),
+    ("SELECT F ASSIGN F LOCK MANUAL WITH ON RECORD", &[4, 6]),
+    ("SELECT F ASSIGN F SHARING WITH ALL OTHER", &[4, 7, 8]),
+    ("SELECT F ASSIGN F SHARING NO OTHER", &[4, 6, 7]),
+    ("SELECT F ASSIGN F SHARING READ ONLY", &[4, 7]),
+    ("SELECT F ASSIGN F SHARING ALL", &[4, 6]),
+    ("SELECT F ASSIGN F SHARING WITH NO", &[4, 7]),
+    ("SELECT F ASSIGN F SHARING WITH READ ONLY", &[4, 8]),
+    ("SELECT F ASSIGN F SHARING OTHER", &[4]),
+    (
+        "SELECT F ASSIGN F RECORD K STATUS S RECORD L",
+        &[4, 6, 8, 10],
+    ),
+    ("SELECT F ASSIGN F BLANK", &[4]),
+    ("SELECT SELECT ASSIGN F", &[]),
+    ("SELECT F ASSIGN 5", &[]),
+    ("SELECT F F", &[]),
+];

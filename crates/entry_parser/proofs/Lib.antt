@@ -1,0 +1,2 @@
+pub mod DataDispatch
+pub mod ScreenDispatch
