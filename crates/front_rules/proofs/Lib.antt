@@ -1,4 +1,2 @@
 pub mod StraysOf
 pub mod SpotsSeen
-pub mod DescriptionsOf
-pub mod OnePlace

@@ -9,7 +9,7 @@ use Rattle.name_rules.specs.DoubleNames.{double_names}
 use Rattle.front_rules.specs.Pictures.{bad_pictures}
 use Rattle.front_rules.specs.Limits.{past_limits}
 use Rattle.front_rules.specs.Kinds.{wrong_kinds}
-use Rattle.front_rules.specs.KeyPlaces.{bad_key_places}
+use Rattle.key_rules.specs.KeyPlaces.{bad_key_places}
 use Rattle.front_rules.specs.Outside.{left_out}
 use Rattle.screen_rules.specs.Placing.{off_screen}
 use Rattle.name_rules.specs.Subscripts.{miscounted_subscripts}

@@ -33,22 +33,23 @@ abbrev pub read_back : PictureValue → ℤ → ℤ
 read_back p value = if is_numeric p.kind then value_of p (edited p value) else unedited p (edited p value)
 
 -- A text fits an alphanumeric or edited item or a group of at least its length, a number a numeric or edited item from which it is read
--- back unchanged. ZERO fits every item, the other figurative constants those that are neither numeric nor edited.
-abbrev pub fits : PictureValue → Constant → Bool
-fits p (c.Text text) = not (is_numeric p.kind) && nat_le (length text) p.size
-fits p (c.Number constant) = is_number p.kind && int_eq (read_back p constant.value) constant.value
-fits p (c.Figurative figure) = may_fill figure p
+-- back unchanged. ZERO fits every item, the other figurative constants those that are neither numeric nor edited. The length of a text
+-- is judged where every size in the item is known; nothing else needs a size.
+abbrev pub fits : Bool → PictureValue → Constant → Bool
+fits sized p (c.Text text) = not (is_numeric p.kind) && (not sized || nat_le (length text) p.size)
+fits sized p (c.Number constant) = is_number p.kind && int_eq (read_back p constant.value) constant.value
+fits sized p (c.Figurative figure) = may_fill figure p
 
-abbrev pub is_unfit : Option PictureValue → Option Constant → Bool
-is_unfit None constant = false
-is_unfit (Some p) None = false
-is_unfit (Some p) (Some constant) = not (fits p constant)
+abbrev pub is_unfit : Bool → Option PictureValue → Option Constant → Bool
+is_unfit sized None constant = false
+is_unfit sized (Some p) None = false
+is_unfit sized (Some p) (Some constant) = not (fits sized p constant)
 
 -- a VALUE in the file section, inside a group with VALUE, or that does not fit its item
 abbrev pub has_bad_value : Spot DataItem → Bool
 has_bad_value spot =
     (has_value spot.item && (spot.item.row.in_file || is_in_value spot))
-    || (is_sized spot && is_unfit (picture_of_item spot) (value_clause spot.item.source.entry.clauses))
+    || is_unfit (is_sized spot) (picture_of_item spot) (value_clause spot.item.source.entry.clauses)
 
 -- ---- items
 
@@ -92,20 +93,16 @@ abbrev pub is_no_crt_status : Option (Spot DataItem) → Bool
 is_no_crt_status None = false
 is_no_crt_status (Some spot) = has_size spot.item.row && not (is_four_digits (picture_of_item spot))
 
-abbrev pub is_whole : Option PictureValue → Bool
-is_whole None = true
-is_whole (Some p) = p.decimals == 0
+abbrev pub is_number_kind : Option PictureKind → Bool
+is_number_kind None = false
+is_number_kind (Some Alphanumeric) = false
+is_number_kind (Some Group) = false
+is_number_kind (Some Edited) = false
+is_number_kind (Some Numeric) = true
 
-abbrev pub is_integer_of : Option PictureKind → Option PictureValue → Bool
-is_integer_of None picture = false
-is_integer_of (Some Alphanumeric) picture = false
-is_integer_of (Some Group) picture = false
-is_integer_of (Some Edited) picture = false
-is_integer_of (Some Numeric) picture = is_whole picture
-
--- a number without decimals; whether one past its limits has decimals is not asked
+-- a number without decimals, also one past its limits
 abbrev pub is_integer : Spot DataItem → Bool
-is_integer spot = not spot.item.row.group && is_integer_of spot.item.kind spot.item.text.picture
+is_integer spot = not spot.item.row.group && is_number_kind spot.item.kind && spot.item.whole
 
 abbrev pub is_no_integer : Option (Spot DataItem) → Bool
 is_no_integer None = false

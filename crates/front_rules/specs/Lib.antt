@@ -2,8 +2,5 @@ pub mod Pictures
 pub mod Limits
 pub mod Levels
 pub mod Kinds
-pub mod KeyPlaces
-pub mod Descriptions
 pub mod Outside
 pub mod Faults
-pub mod SeenKeys

@@ -6,19 +6,17 @@ ghost use Rattle.name_rules.specs.DoubleNames.{double_names};
 ghost use Rattle.front_rules.specs.Pictures.{bad_pictures};
 ghost use Rattle.front_rules.specs.Limits.{past_limits};
 ghost use Rattle.front_rules.specs.Kinds.{wrong_kinds};
-ghost use Rattle.front_rules.specs.KeyPlaces.{bad_key_places};
+ghost use Rattle.key_rules.specs.KeyPlaces.{bad_key_places};
 ghost use Rattle.front_rules.specs.Outside.{left_out};
 ghost use Rattle.screen_rules.specs.Placing.{off_screen};
 ghost use Rattle.name_rules.specs.Subscripts.{miscounted_subscripts};
 ghost use Rattle.name_rules.specs.UnknownNames.{unknown_names, ambiguous_names};
-ghost use Rattle.front_rules.specs.Descriptions.{AreDescriptions};
+ghost use Rattle.key_rules.specs.Descriptions.{AreDescriptions};
 ghost use Rattle.name_rules.specs.SeenMentions.{AreMentions};
 ghost use Rattle.entry_clauses.specs.SeenScreens.{seen_screen, ArePlacedAfter, AreKnownScreens};
 ghost use Rattle.name_rules.specs.Faults.{faults_at};
 ghost use Rattle.front_rules.specs.Faults.{front_faults};
 
-use crate::descriptions::Descriptions;
-use crate::key_places::note_bad_keys;
 use crate::kinds::note_wrong_kinds;
 use crate::limits::{
     note_files_past_limit, note_items_past_limits, note_keys_past_limits, note_screens_past_limits,
@@ -28,6 +26,7 @@ use crate::pictures::{note_item_pictures, note_screen_pictures};
 use cob_base::{Front, NoMemory};
 use data_names::{Table, files};
 use entry_clauses::KnownScreen;
+use key_rules::{Descriptions, note_bad_keys};
 use name_rules::{
     Faults, Mentions, all_mentions, declared_names, note_ambiguous_names, note_clashes,
     note_miscounted, note_twin_items, note_twin_screens, note_unknown_names,

@@ -13,7 +13,7 @@ ghost use Rattle.name_rules.specs.SeenMentions.{IsFoundMention, AreMentions, see
 ghost use Rattle.entry_clauses.specs.SeenScreens.{seen_screen, ArePlacedAfter};
 ghost use Rattle.entry_clauses.specs.Clauses.{has_leading_sign};
 ghost use Rattle.cob_value.specs.Figures.{is_numeric};
-ghost use Rattle.front_rules.specs.Kinds.{is_text_kind, is_text, is_no_status, is_bad_status, is_file_of_wrong_kind, is_four_digits, is_no_crt_status, is_whole, is_integer, is_no_integer, is_item_of_wrong_kind, wrong_in_environment, wrong_in_data, wrong_kinds};
+ghost use Rattle.front_rules.specs.Kinds.{is_text_kind, is_text, is_no_status, is_bad_status, is_file_of_wrong_kind, is_four_digits, is_no_crt_status, is_number_kind, is_integer, is_no_integer, is_item_of_wrong_kind, wrong_in_environment, wrong_in_data, wrong_kinds};
 ghost use Rattle.screen_rules.specs.ScreenKinds.{is_screen_of_wrong_kind};
 ghost use Rattle.name_rules.specs.Faults.{faults_at};
 
@@ -126,30 +126,23 @@ fn is_bad_crt_status(alloc: Global, table: &Table, crt: &CrtStatus) -> Result<bo
     }
 }
 
-fn is_whole(picture: Option<&Picture>) -> bool
-    ensures { result ≡ is_whole (option_copied picture.entry) }
+fn is_number_kind(kind: Option<PictureKind>) -> bool
+    ensures { result ≡ is_number_kind kind }
 {
-    match picture {
-        Some(picture) => picture.decimals == 0,
-        None => true,
+    match kind {
+        Some(PictureKind::Numeric) => true,
+        Some(PictureKind::Alphanumeric | PictureKind::Group | PictureKind::Edited) => false,
+        None => false,
     }
 }
 
 fn is_integer(item: KnownItem) -> bool
     ensures { (spot : Spot DataItem) → spot.item ≡ seen_item item.entry → result ≡ is_integer spot }
 {
-    let text = item.text;
-    if item.row.group {
-        return false;
-    }
-    match item.told.kind {
-        Some(PictureKind::Numeric) => is_whole(text.picture.as_ref()),
-        Some(PictureKind::Alphanumeric | PictureKind::Group | PictureKind::Edited) => false,
-        None => false,
-    }
+    !item.row.group && is_number_kind(item.told.kind) && item.told.whole
 }
 
-/// Whether an item is no number without decimals. Whether one past its limits has decimals is not asked.
+/// Whether an item is no number without decimals. One past its limits may be one.
 pub fn is_no_integer(item: KnownItem) -> bool
     ensures { (spot : Spot DataItem) → spot.item ≡ seen_item item.entry → result ≡ is_no_integer (Some spot) }
 {

@@ -10,7 +10,7 @@ ghost use Rattle.data_names.specs.Clauses.{value_clause};
 ghost use Rattle.data_names.specs.Items.{DataItem};
 ghost use Rattle.data_names.specs.Seen.{seen_item};
 ghost use Rattle.data_names.specs.Facts.{IsFacts};
-ghost use Rattle.data_names.specs.Spots.{Spot, picture_of_item, has_value, is_in_value};
+ghost use Rattle.data_names.specs.Spots.{Spot, picture_of_item, has_value, is_in_value, is_sized};
 ghost use Rattle.front_rules.specs.Kinds.{read_back, fits, is_unfit, has_bad_value};
 
 use cob_base::{ByteText, Constant, NoMemory, Num};
@@ -65,18 +65,23 @@ fn does_number_fit(alloc: Global, picture: &Picture, value: Num) -> Result<bool,
     }
 }
 
-fn does_text_fit(picture: &Picture, text: &ByteText) -> bool
-    ensures { result ≡ (not (is_numeric picture.now.kind) && nat_le (length text.now) picture.now.size) }
+fn does_text_fit(sized: bool, picture: &Picture, text: &ByteText) -> bool
+    ensures { result ≡ (not (is_numeric picture.now.kind) && (not sized || nat_le (length text.now) picture.now.size)) }
 {
-    !is_numeric(picture.kind) && text.as_bytes().len() as u64 <= u64::from(picture.size)
+    !is_numeric(picture.kind) && (!sized || text.as_bytes().len() as u64 <= u64::from(picture.size))
 }
 
-/// Whether a constant fits an item as its VALUE.
-fn does_fit(alloc: Global, picture: &Picture, constant: &Constant) -> Result<bool, NoMemory>
-    ensures { IfOk result (λ fitting. fitting ≡ fits picture.now constant.now) }
+/// Whether a constant fits an item as its VALUE. `sized` says that the item's size is known.
+fn does_fit(
+    alloc: Global,
+    sized: bool,
+    picture: &Picture,
+    constant: &Constant,
+) -> Result<bool, NoMemory>
+    ensures { IfOk result (λ fitting. fitting ≡ fits sized picture.now constant.now) }
 {
     match constant {
-        Constant::Text(text) => Ok(does_text_fit(picture, text)),
+        Constant::Text(text) => Ok(does_text_fit(sized, picture, text)),
         Constant::Number(number) => does_number_fit(alloc, picture, number.value),
         Constant::Figurative(figure) => Ok(may_fill(*figure, picture)),
     }
@@ -90,11 +95,11 @@ fn does_group_hold(bytes: u64, text: &ByteText) -> bool
 }
 
 /// Whether a constant fits a group of so many bytes, as far as they are counted, as its VALUE.
-fn does_fit_group(alloc: Global, bytes: u64, constant: &Constant) -> bool
-    ensures { (size : ℕ) → bytes ≡ counted size → result ≡ fits (plain PictureKind.Group size) constant.now }
+fn does_fit_group(alloc: Global, sized: bool, bytes: u64, constant: &Constant) -> bool
+    ensures { (size : ℕ) → bytes ≡ counted size → result ≡ fits sized (plain PictureKind.Group size) constant.now }
 {
     match constant {
-        Constant::Text(text) => does_group_hold(bytes, text),
+        Constant::Text(text) => !sized || does_group_hold(bytes, text),
         Constant::Number(_) => false,
         Constant::Figurative(figure) => may_fill(*figure, &Picture::group(alloc, 0)),
     }
@@ -102,28 +107,29 @@ fn does_fit_group(alloc: Global, bytes: u64, constant: &Constant) -> bool
 
 fn is_unfit_for(
     alloc: Global,
+    sized: bool,
     picture: Option<&Picture>,
     constant: &Constant,
 ) -> Result<bool, NoMemory>
-    ensures { IfOk result (λ bad. bad ≡ is_unfit (option_copied picture.entry) (Some constant.now)) }
+    ensures { IfOk result (λ bad. bad ≡ is_unfit sized (option_copied picture.entry) (Some constant.now)) }
 {
     match picture {
-        Some(picture) => Ok(!does_fit(alloc, picture, constant)?),
+        Some(picture) => Ok(!does_fit(alloc, sized, picture, constant)?),
         None => Ok(false),
     }
 }
 
 /// Whether the VALUE of an item does not fit it.
 fn is_unfit(alloc: Global, item: &KnownItem, facts: &Facts) -> Result<bool, NoMemory>
-    ensures { (spot : Spot DataItem) → spot.item ≡ seen_item item.now → IsFacts spot facts.now → IfOk result (λ bad. bad ≡ is_unfit (picture_of_item spot) (value_clause spot.item.source.entry.clauses)) }
+    ensures { (spot : Spot DataItem) → spot.item ≡ seen_item item.now → IsFacts spot facts.now → IfOk result (λ bad. bad ≡ is_unfit (is_sized spot) (picture_of_item spot) (value_clause spot.item.source.entry.clauses)) }
 {
     let Some(constant) = value(item.source.entry.clauses.as_slice()) else {
         return Ok(false);
     };
     if item.row.group {
-        return Ok(!does_fit_group(alloc, facts.bytes, constant));
+        return Ok(!does_fit_group(alloc, facts.sized, facts.bytes, constant));
     }
-    is_unfit_for(alloc, item.text.picture.as_ref(), constant)
+    is_unfit_for(alloc, facts.sized, item.text.picture.as_ref(), constant)
 }
 
 /// Whether a VALUE stands in the file section or inside a group with VALUE.
@@ -140,9 +146,5 @@ pub fn has_bad_value(alloc: Global, item: &KnownItem, facts: &Facts) -> Result<b
     if is_misplaced(item, facts) {
         return Ok(true);
     }
-    if facts.sized {
-        is_unfit(alloc, item, facts)
-    } else {
-        Ok(false)
-    }
+    is_unfit(alloc, item, facts)
 }

@@ -10,9 +10,9 @@ use Rattle.data_names.specs.Parts.{files}
 use Rattle.data_names.specs.Items.{DataItem}
 use Rattle.data_names.specs.Spots.{Spot, spots, spots_after, is_record}
 use Rattle.data_names.specs.References.{is_called}
-use Rattle.front_rules.specs.Descriptions.{IsDescription, is_record_under}
-use Rattle.front_rules.specs.KeyPlaces.{description_of, same_number}
-use Rattle.front_rules.specs.declared.descriptions.Description.{Description}
+use Rattle.key_rules.specs.Descriptions.{IsDescription, is_record_under}
+use Rattle.key_rules.specs.KeyPlaces.{description_of, same_number}
+use Rattle.key_rules.specs.declared.descriptions.Description.{Description}
 use Rattle.procedure_names.specs.Names.{record_named, is_level_record, is_screen_of, paragraph_named, record_of_file}
 use Rattle.procedure_names.specs.Scoped.{name_of_record, name_of_screen}
 use Rattle.procedure_names.specs.Firsts.{at_number}

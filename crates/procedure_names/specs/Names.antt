@@ -11,7 +11,7 @@ use Rattle.data_names.specs.Parts.{files, descriptions, screen_entries}
 use Rattle.data_names.specs.Items.{DataItem}
 use Rattle.data_names.specs.Spots.{Spot, spots, is_record}
 use Rattle.data_names.specs.References.{same_name, is_called}
-use Rattle.front_rules.specs.KeyPlaces.{description_of, same_number}
+use Rattle.key_rules.specs.KeyPlaces.{description_of, same_number}
 use Rattle.statement_parts.specs.declared.names.NameKind.{NameKind}
 use Rattle.statement_parts.specs.declared.names.NameKind.TheVariants as kinds
 use Rattle.statement_parts.specs.References.{Wanted}

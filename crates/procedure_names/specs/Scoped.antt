@@ -5,7 +5,7 @@ use Rattle.cob_base.specs.declared.screen_entries.ScreenEntry.{ScreenEntry}
 use Rattle.data_names.specs.Parts.{files, screen_entries}
 use Rattle.data_names.specs.Items.{DataItem, AreDataItems}
 use Rattle.data_names.specs.Table.{IsTable, items_of}
-use Rattle.front_rules.specs.Descriptions.{AreDescriptions}
+use Rattle.key_rules.specs.Descriptions.{AreDescriptions}
 use Rattle.procedure_names.specs.declared.scope.Scope.{Scope}
 use Rattle.procedure_names.specs.Firsts.{AreFirsts}
 use Rattle.procedure_names.specs.SeenConditions.{AreConditions}

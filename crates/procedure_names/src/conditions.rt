@@ -8,11 +8,10 @@ ghost use Rattle.data_names.specs.Seen.{seen_name};
 ghost use Rattle.data_names.specs.References.{is_called, is_qualified, names_around};
 ghost use Rattle.data_names.specs.Table.{IsTable, items_of};
 ghost use Rattle.procedure_names.specs.Conditions.{NamedCondition, condition_on, conditions, conditions_after};
-ghost use Rattle.procedure_names.specs.ConditionNames.{AreConditionNames};
 ghost use Rattle.procedure_names.specs.SeenConditions.{IsSpotAt, IsKnownCondition, IsStepTo, AreConditions, IsFoundCondition, IsAmongConditions, is_choice};
 
 use crate::condition_names::ConditionNames;
-use cob_base::{ByteText, ConditionEntry, DataEntry, Front, NoMemory, Reference};
+use cob_base::{ByteText, ConditionEntry, DataEntry, Front, NoMemory, Paragraph, Reference};
 use data_names::{Found, Table, descriptions, same_name, working_storage};
 use std::alloc::Global;
 
@@ -104,15 +103,20 @@ pub struct Conditions<'a> {
 }
 
 impl<'a> Conditions<'a> {
-    /// Those of a front, whose items these are.
-    pub fn of(alloc: Global, front: &'a Front, table: &Table) -> Result<Conditions<'a>, NoMemory>
+    /// Those of a front, whose items these are, to be found for the references in these paragraphs.
+    pub fn of(
+        alloc: Global,
+        front: &'a Front,
+        table: &Table,
+        paragraphs: &[Paragraph],
+    ) -> Result<Conditions<'a>, NoMemory>
         requires table { IsTable table.now }
         requires items { AreDataItems front.now (items_of table.now) }
         ensures { IfOk result (λ known. AreConditions front.entry.now (items_of table.now) known) }
     {
         let _count = table.items.len();
         let all = conditions_of(alloc, front)?;
-        let names = names_of(alloc, table, all.as_slice())?;
+        let names = ConditionNames::of(alloc, table, all.as_slice(), paragraphs)?;
         Ok(Conditions { all, names })
     }
 
@@ -191,23 +195,6 @@ fn with_one(found: Found, at: usize) -> Found
         Found::One(_) => Found::Several,
         Found::Several => Found::Several,
     }
-}
-
-/// The names of 88 entries.
-fn names_of(
-    alloc: Global,
-    table: &Table,
-    all: &[KnownCondition],
-) -> Result<ConditionNames, NoMemory>
-    requires table { IsTable table.now }
-    requires known { (named : List NamedCondition) × AllZip (IsKnownCondition (items_of table.now)) all.now named }
-    ensures { (named : List NamedCondition) → AllZip (IsKnownCondition (items_of table.now)) all.now named → IfOk result (λ names. AreConditionNames named names) }
-{
-    let mut names = ConditionNames::none(alloc);
-    for (at, condition) in all.iter().enumerate() {
-        names.add(alloc, table, &condition.entry.name, condition.item, at)?;
-    }
-    Ok(names)
 }
 
 /// Whether the qualifiers of an 88 entry are its item's name or names of groups that the item is in, from the inside out.

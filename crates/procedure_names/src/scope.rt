@@ -6,7 +6,7 @@ ghost use Rattle.data_names.specs.Items.{AreDataItems};
 ghost use Rattle.data_names.specs.Spots.{spots};
 ghost use Rattle.data_names.specs.Seen.{seen_item};
 ghost use Rattle.data_names.specs.Table.{IsTable, items_of};
-ghost use Rattle.front_rules.specs.Descriptions.{AreDescriptions};
+ghost use Rattle.key_rules.specs.Descriptions.{AreDescriptions};
 ghost use Rattle.statement_parts.specs.Seen.{seen_wanted};
 ghost use Rattle.procedure_names.specs.Firsts.{at_number, AreFirsts};
 ghost use Rattle.procedure_names.specs.Names.{is_known, is_screen_of, file_named, record_named, file_of_description, file_of_number, file_of_record, record_of_file, paragraph_named};
@@ -19,7 +19,7 @@ use cob_base::{
     ByteText, FileDescription, FileEntry, Front, NoMemory, Paragraph, Program, ScreenEntry,
 };
 use data_names::{KnownItem, Table, descriptions, files, screen_entries};
-use front_rules::Descriptions;
+use key_rules::Descriptions;
 use statement_parts::{NameKind, Wanted};
 use std::alloc::Global;
 
@@ -49,7 +49,12 @@ impl<'a> Scope<'a> {
         requires descriptions { AreDescriptions program.now.front (items_of table.now) descriptions.now }
         ensures { IfOk result (λ scope. IsScope scope × (scope.program.now ≡ program.entry.now) × (scope.table.now ≡ table.entry.now)) }
     {
-        let conditions = Conditions::of(alloc, &program.front, table)?;
+        let conditions = Conditions::of(
+            alloc,
+            &program.front,
+            table,
+            program.paragraphs.as_slice(),
+        )?;
         let file_names = names_of_files(alloc, files(&program.front))?;
         let record_names = names_of_records(alloc, table.items)?;
         let screen_names = names_of_screens(alloc, screen_entries(&program.front))?;

@@ -12,7 +12,8 @@ use Rattle.data_names.specs.Spots.{Spot, spots}
 use Rattle.procedure_rules.proofs.Numbered.{numbered}
 use Rattle.data_names.specs.References.{found}
 use Rattle.entry_clauses.specs.Clauses.{record_key, alternates}
-use Rattle.procedure_rules.specs.Keys.{same_item, is_alternate}
+use Rattle.procedure_rules.specs.Keys.{same_item}
+use Rattle.procedure_rules.specs.KnownFiles.{is_alternate}
 
 any_both : {A : Type 0} (test : A → Bool) (xs ys : List A) → list_any test (xs ++ ys) ≡ (list_any test xs || list_any test ys)
 any_both test [] ys = refl

@@ -1,8 +1,6 @@
 pub mod Arrows
-pub mod SpotsWithin
 pub mod Numbered
 pub mod NotedLines
 pub mod KeysOfFiles
 pub mod KeyNumbers
 pub mod FilesKnown
-pub mod Marks

@@ -4,8 +4,6 @@ use Rattle.std.specs.List.{list_any, filter_map}
 use Rattle.cob_base.specs.declared.divisions.Front.{Front}
 use Rattle.cob_base.specs.declared.operands.Reference.{Reference}
 use Rattle.cob_base.specs.declared.file_entries.FileEntry.{FileEntry}
-use Rattle.cob_base.specs.declared.file_entries.FileClause.{FileClause}
-use Rattle.cob_base.specs.declared.file_entries.FileClause.TheVariants as f
 use Rattle.cob_base.specs.declared.statements.Statement.{Statement}
 use Rattle.cob_base.specs.declared.statements.Statement.TheVariants as s
 use Rattle.data_names.specs.Items.{DataItem}
@@ -32,11 +30,6 @@ key_phrases _ = []
 
 abbrev pub same_item : Spot DataItem → Spot DataItem → Bool
 same_item spot other = spot.item.row.number == other.item.row.number
-
--- a clause with ALTERNATE KEY that names the item
-abbrev pub is_alternate : List DataItem → Spot DataItem → FileClause → Bool
-is_alternate items spot (f.AlternateKey key duplicates) = list_any (same_item spot) (option_to_list (found items key))
-is_alternate items spot _ = false
 
 abbrev pub is_no_key_of : List DataItem → Option FileEntry → Option (Spot DataItem) → Bool
 is_no_key_of items None spot = false

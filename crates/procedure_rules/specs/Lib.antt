@@ -4,7 +4,6 @@ pub mod Keys
 pub mod Performed
 pub mod Phrases
 pub mod Faults
-pub mod SeenSides
 pub mod SeenReading
 pub mod KnownFiles
 pub mod KnownProgram

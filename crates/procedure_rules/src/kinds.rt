@@ -11,15 +11,12 @@ ghost use Rattle.procedure_names.specs.Scoped.{IsScope, items_in};
 
 use crate::known_program::KnownProgram;
 use crate::reading::is_out_of_order;
-use crate::values::{
-    compares_badly, counts_badly, moves_badly, moves_record_badly, reckons_badly, stores_badly,
-    tests_badly,
-};
 use cob_base::{ByteText, Located, NoMemory, Relation, StartPlace, Statement};
 use front_rules::note_no_integers;
 use name_rules::Faults;
 use procedure_names::{Scope, StatementMentions};
 use std::alloc::Global;
+use value_rules::has_bad_values;
 
 /// Whether a paragraph stands before another one, where both are known.
 fn is_before(last: Option<usize>, first: Option<usize>) -> bool
@@ -109,37 +106,6 @@ fn starts_unequal(statement: &Statement) -> bool
     }
 }
 
-/// Whether a statement's values are of a wrong kind.
-fn has_bad_values(
-    alloc: Global,
-    known: &KnownProgram,
-    statement: &Statement,
-) -> Result<bool, NoMemory>
-    requires { IsKnownProgram known.now }
-    ensures { IfOk result (λ bad. bad ≡ k.has_bad_values known.now.scope.now.program.now (items_in known.now.scope.now) statement.now) }
-{
-    let table = known.scope.table;
-    if moves_badly(alloc, table, statement)? {
-        return Ok(true);
-    }
-    if moves_record_badly(alloc, known.scope, statement)? {
-        return Ok(true);
-    }
-    if reckons_badly(alloc, table, statement)? {
-        return Ok(true);
-    }
-    if stores_badly(alloc, table, statement)? {
-        return Ok(true);
-    }
-    if counts_badly(alloc, table, statement)? {
-        return Ok(true);
-    }
-    if compares_badly(alloc, table, statement)? {
-        return Ok(true);
-    }
-    tests_badly(alloc, known, statement)
-}
-
 /// Whether a statement is of a wrong kind.
 fn is_of_wrong_kind(
     alloc: Global,
@@ -149,7 +115,7 @@ fn is_of_wrong_kind(
     requires { IsKnownProgram known.now }
     ensures { IfOk result (λ bad. bad ≡ k.is_of_wrong_kind known.now.scope.now.program.now (items_in known.now.scope.now) statement.now) }
 {
-    if has_bad_values(alloc, known, statement)? {
+    if has_bad_values(alloc, known.scope, &known.judged, statement)? {
         return Ok(true);
     }
     if runs_backwards(alloc, known.scope, statement)? {

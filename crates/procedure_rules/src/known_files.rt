@@ -7,7 +7,7 @@ ghost use Rattle.data_names.specs.References.{found};
 ghost use Rattle.name_rules.specs.Mentions.{keys_of};
 ghost use Rattle.procedure_rules.specs.Keys as k;
 ghost use Rattle.procedure_rules.specs.Reading as r;
-ghost use Rattle.procedure_rules.specs.KnownFiles.{has_number, IsKnownFile, AreKnownFiles};
+ghost use Rattle.procedure_rules.specs.KnownFiles.{has_number, is_alternate, IsKnownFile, AreKnownFiles};
 ghost use Rattle.procedure_names.specs.Scoped.{IsScope, items_in};
 
 use cob_base::{Access, FileClause, FileEntry, NoMemory, Reference};
@@ -126,7 +126,7 @@ fn add_alternates(
     clauses: &[FileClause],
 ) -> Result<(), NoMemory>
     requires { IsScope scope.now }
-    ensures { (at : ℕ) (spot : Spot DataItem) → slice_get (spots (items_in scope.now)) at ≡ Some spot → OnOk result (has_number keys.new at ≡ (has_number keys.old at || list_any (k.is_alternate (items_in scope.now) spot) clauses.now)) }
+    ensures { (at : ℕ) (spot : Spot DataItem) → slice_get (spots (items_in scope.now)) at ≡ Some spot → OnOk result (has_number keys.new at ≡ (has_number keys.old at || list_any (is_alternate (items_in scope.now) spot) clauses.now)) }
 {
     for clause in clauses {
         add_alternate(alloc, scope, keys, clause)?;
@@ -142,7 +142,7 @@ fn add_alternate(
     clause: &FileClause,
 ) -> Result<(), NoMemory>
     requires { IsScope scope.now }
-    ensures { (at : ℕ) (spot : Spot DataItem) → slice_get (spots (items_in scope.now)) at ≡ Some spot → OnOk result (has_number keys.new at ≡ (has_number keys.old at || k.is_alternate (items_in scope.now) spot clause.now)) }
+    ensures { (at : ℕ) (spot : Spot DataItem) → slice_get (spots (items_in scope.now)) at ≡ Some spot → OnOk result (has_number keys.new at ≡ (has_number keys.old at || is_alternate (items_in scope.now) spot clause.now)) }
 {
     match clause {
         FileClause::AlternateKey { key, .. } => {

@@ -1,20 +1,18 @@
-ghost use Rattle.std.specs.Prelude.{◌≡◌, ◌<◌, length, slice_get, Some, IfOk};
+ghost use Rattle.std.specs.Prelude.{◌≡◌, IfOk};
 ghost use Rattle.std.specs.Option.{option_copied, IfSome};
 ghost use Rattle.data_names.specs.Parts.{files};
-ghost use Rattle.procedure_names.specs.Conditions.{NamedCondition, conditions};
 ghost use Rattle.procedure_names.specs.Firsts.{at_number};
-ghost use Rattle.procedure_rules.specs.Kinds as k;
 ghost use Rattle.procedure_rules.specs.KnownFiles.{IsKnownFile, seen_file};
 ghost use Rattle.procedure_rules.specs.KnownProgram.{IsKnownProgram};
 ghost use Rattle.procedure_names.specs.Names.{file_named, file_of_record, record_named};
 ghost use Rattle.procedure_names.specs.Scoped.{IsScope, front_in, items_in};
 
-use crate::judged_conditions::bad_conditions;
 use crate::known_files::{KnownFile, known_files};
 use cob_base::{ByteText, NoMemory};
 use data_names::files;
 use procedure_names::Scope;
 use std::alloc::Global;
+use value_rules::JudgedConditions;
 
 /// What statements are judged by: what names stand for, what the clauses of each file say, and which 88 entries have a constant that
 /// their item can't be compared with.
@@ -22,8 +20,7 @@ use std::alloc::Global;
 pub struct KnownProgram<'a> {
     pub scope: &'a Scope<'a>,
     files: Vec<KnownFile<'a>>,
-    /// A mark for each 88 entry, in their order.
-    bad_conditions: Vec<bool>,
+    pub judged: JudgedConditions,
 }
 
 impl<'a> KnownProgram<'a> {
@@ -34,11 +31,11 @@ impl<'a> KnownProgram<'a> {
         ensures scope { IfOk result (λ known. known.scope.now ≡ scope.entry.now) }
     {
         let known = known_files(alloc, scope, files(&scope.program.front))?;
-        let marks = bad_conditions(alloc, scope)?;
+        let judged = JudgedConditions::of(alloc, scope)?;
         Ok(KnownProgram {
             scope,
             files: known,
-            bad_conditions: marks,
+            judged,
         })
     }
 
@@ -82,15 +79,6 @@ impl<'a> KnownProgram<'a> {
             }
             None => Ok(None),
         }
-    }
-
-    /// Whether the 88 entry of a number has a constant that its item can't be compared with.
-    pub fn is_bad_condition(&self, at: usize) -> bool
-        requires known { IsKnownProgram self.now }
-        requires within { at < length self.now.bad_conditions.items }
-        ensures { (one : NamedCondition) → slice_get (conditions (front_in self.now.scope.now) (items_in self.now.scope.now)) at ≡ Some one → result ≡ k.is_bad_condition (Some one) }
-    {
-        self.bad_conditions[at]
     }
 }
 

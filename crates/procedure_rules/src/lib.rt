@@ -1,7 +1,6 @@
 //! The rules of the language as far as they speak of a procedure division: the faults of each, with line and reason.
 #![tactic(auto)]
 
-mod judged_conditions;
 mod keys;
 mod kinds;
 mod known_files;
@@ -10,7 +9,5 @@ mod performed;
 mod phrases;
 mod procedure_faults;
 mod reading;
-mod sides;
-mod values;
 
 pub use procedure_faults::note_procedure_faults;

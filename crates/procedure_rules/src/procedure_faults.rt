@@ -2,7 +2,7 @@ ghost use Rattle.std.specs.Prelude.{◌≡◌, ◌++◌, List, map, filter, OnOk
 ghost use Rattle.cob_base.specs.declared.line.Line.{Line};
 ghost use Rattle.data_names.specs.Items.{AreDataItems};
 ghost use Rattle.data_names.specs.Table.{IsTable, items_of};
-ghost use Rattle.front_rules.specs.Descriptions.{AreDescriptions};
+ghost use Rattle.key_rules.specs.Descriptions.{AreDescriptions};
 ghost use Rattle.name_rules.specs.Faults.{faults_at};
 ghost use Rattle.statement_parts.specs.Seen.{seen_all};
 ghost use Rattle.procedure_rules.specs.Keys.{has_bad_key};
@@ -26,7 +26,7 @@ use crate::phrases::{note_left_out, note_refused_retries};
 use crate::reading::has_bad_lock;
 use cob_base::{Located, NoMemory, Program, Statement};
 use data_names::Table;
-use front_rules::Descriptions;
+use key_rules::Descriptions;
 use name_rules::Faults;
 use procedure_names::{
     Scope, StatementMentions, mentions_of, note_ambiguous_in_statements, note_double_paragraphs,

@@ -2,8 +2,7 @@ use Rattle.std.proofs.Common.{◌∙◌, sym, ap, ◌||◌, ◌+◌, ℕ, List, 
 use Rattle.std.specs.List.{list_any}
 use Rattle.std.proofs.lemmas.List.{drop_all}
 use Rattle.cob_base.specs.declared.file_entries.FileClause.{FileClause}
-use Rattle.procedure_rules.specs.Keys.{is_alternate}
-use Rattle.procedure_rules.specs.KnownFiles.{has_number}
+use Rattle.procedure_rules.specs.KnownFiles.{has_number, is_alternate}
 use Rattle.procedure_names.specs.Scoped.{items_in}
 use Rattle.procedure_rules.proofs.KeyNumbers.{or_apart, or_none}
 use Rattle.procedure_names.proofs.KnownConditions.{headed_at}

@@ -4,8 +4,7 @@ use Rattle.std.specs.Prelude.{slice_get}
 use Rattle.std.specs.List.{list_any}
 use Rattle.data_names.specs.Items.{DataItem}
 use Rattle.data_names.specs.Spots.{Spot, spots}
-use Rattle.procedure_rules.specs.Keys.{is_alternate}
-use Rattle.procedure_rules.specs.KnownFiles.{has_number}
+use Rattle.procedure_rules.specs.KnownFiles.{has_number, is_alternate}
 use Rattle.procedure_names.specs.Scoped.{items_in}
 use Rattle.procedure_rules.proofs.known_files.add_alternates.Given as goal
 

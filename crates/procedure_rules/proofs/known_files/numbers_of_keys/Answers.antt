@@ -6,8 +6,8 @@ use Rattle.cob_base.specs.declared.operands.Reference.{Reference}
 use Rattle.cob_base.specs.declared.file_entries.FileClause.{FileClause}
 use Rattle.data_names.specs.References.{found}
 use Rattle.entry_clauses.specs.Clauses.{record_key}
-use Rattle.procedure_rules.specs.Keys.{same_item, is_alternate}
-use Rattle.procedure_rules.specs.KnownFiles.{has_number}
+use Rattle.procedure_rules.specs.Keys.{same_item}
+use Rattle.procedure_rules.specs.KnownFiles.{has_number, is_alternate}
 use Rattle.procedure_names.specs.Scoped.{items_in}
 use Rattle.procedure_rules.proofs.KeyNumbers.{none_yet}
 use Rattle.procedure_rules.proofs.KeysOfFiles.{prime_or_alternate}

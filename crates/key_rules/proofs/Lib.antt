@@ -1,0 +1,2 @@
+pub mod DescriptionsOf
+pub mod OnePlace

@@ -1,0 +1,2 @@
+pub mod SpotsWithin
+pub mod Marks
