@@ -1,4 +1,4 @@
-//! `cobol`: reads a program and shows what it does.
+//! `cobol`: reads a program, and checks it or shows its screen.
 //!
 //! The words of the command line say what to do; the files of the current folder are read, and results and lines of
 //! refusal go to standard output. The status says how it went.

@@ -47,14 +47,14 @@ not_not : (b : Bool) → not b ≡ false → b ≡ true
 not_not true h = refl
 not_not false h = cc
 
-fit_held : (p : PictureValue) (constant : Constant) → fits p constant ≡ true → can_hold p (Some constant) ≡ true
+fit_held : (p : PictureValue) (constant : Constant) → fits true p constant ≡ true → can_hold p (Some constant) ≡ true
 fit_held p (c.Text text) h = refl
 fit_held p (c.Number number) h = first_of (is_number p.kind) (int_eq (read_back p number.value) number.value) h
 fit_held p (c.Figurative figure) h = h
 
-value_held : (p : PictureValue) (value : Option Constant) → is_unfit (Some p) value ≡ false → can_hold p value ≡ true
+value_held : (p : PictureValue) (value : Option Constant) → is_unfit true (Some p) value ≡ false → can_hold p value ≡ true
 value_held p None h = refl
-value_held p (Some constant) h = fit_held p constant (not_not (fits p constant) h)
+value_held p (Some constant) h = fit_held p constant (not_not (fits true p constant) h)
 
 -- ---- sizes that are known
 
@@ -94,13 +94,13 @@ picture_is before x rest place h = picture_by x.row.group before x rest place re
 
 -- ---- each item
 
-fitting : (spot : Spot DataItem) → is_item_of_wrong_kind spot ≡ false → is_sized spot ≡ true → is_unfit (picture_of_item spot) (value_clause spot.item.source.entry.clauses) ≡ false
+fitting : (spot : Spot DataItem) → is_item_of_wrong_kind spot ≡ false → is_sized spot ≡ true → is_unfit true (picture_of_item spot) (value_clause spot.item.source.entry.clauses) ≡ false
 fitting spot h s =
     let k3 = neither (has_bad_level spot || has_bad_value spot || spot.item.row.twice) (has_leading_sign spot.item.source.entry.clauses) h in
     let k2 = neither (has_bad_level spot || has_bad_value spot) spot.item.row.twice k3.0 in
     let k1 = neither (has_bad_level spot) (has_bad_value spot) k2.0 in
-    let v = neither (has_value spot.item && (spot.item.row.in_file || is_in_value spot)) (is_sized spot && is_unfit (picture_of_item spot) (value_clause spot.item.source.entry.clauses)) k1.1 in
-    rw s at v.1
+    let v = neither (has_value spot.item && (spot.item.row.in_file || is_in_value spot)) (is_unfit (is_sized spot) (picture_of_item spot) (value_clause spot.item.source.entry.clauses)) k1.1 in
+    subst (λ sized. is_unfit sized (picture_of_item spot) (value_clause spot.item.source.entry.clauses) ≡ false) s v.1
 
 held_from : (before rest : List DataItem) (places : List Item) → AreItems (rows_of before) (rows_of rest) (map (λ (item : DataItem). item.text) rest) places
     → list_any is_item_of_wrong_kind (spots_after before rest) ≡ false → list_any (λ (item : DataItem). is_unreadable item.row.spelled) rest ≡ false → AllZip CanHold rest places
@@ -113,7 +113,7 @@ held_from before (x ∷ rest) (p ∷ places) a w u =
     let unfit = fitting (spot_of before x rest) wrong.0 (item_sized before x rest (all_sized (x ∷ rest) u)) in
     let picture = picture_is before x rest p a.0.picture in
     let here : can_hold p.picture (value_clause x.source.entry.clauses) ≡ true =
-    value_held p.picture (value_clause x.source.entry.clauses) (sym (ap (λ o. is_unfit o (value_clause x.source.entry.clauses)) picture) ∙ unfit) in
+    value_held p.picture (value_clause x.source.entry.clauses) (sym (ap (λ o. is_unfit true o (value_clause x.source.entry.clauses)) picture) ∙ unfit) in
     let more : rows_of before ++ x.row ∷ [] ≡ rows_of (before ++ x ∷ []) = sym (map-append (λ (item : DataItem). item.row) before (x ∷ [])) in
     (here, held_from (before ++ x ∷ []) rest places (subst (λ rows. AreItems rows (rows_of rest) (map (λ (item : DataItem). item.text) rest) places) more a.1) wrong.1 unreadable.1)
 
@@ -127,4 +127,4 @@ can_open front layout f l =
 pub opens : (checked : CheckedValue) → IsInProfile checked → CanOpen checked.program.front checked.layout
 opens checked h =
     can_open checked.program.front checked.layout
-    (front_of checked.program (record { items = h.items; screens = h.screens; cycles = h.cycles; items_are = h.items_are; screens_are = h.screens_are; cycles_are = h.cycles_are; faultless = h.faultless })) h.layout_is
+    (front_of checked.program h.keeps) h.layout_is

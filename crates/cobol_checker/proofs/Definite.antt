@@ -14,7 +14,7 @@ use Rattle.entry_clauses.proofs.SameScreens.{screens_once}
 use Rattle.perform_cycles.specs.declared.arrows.Arrow.{Arrow}
 use Rattle.procedure_rules.specs.Performed.{arrows, AreOnCycles, AreCycleLines}
 use Rattle.procedure_rules.specs.Faults.{program_faults}
-use Rattle.cobol_checker.specs.Outcome.{CheckedValue, IsInProfile, IsRefused}
+use Rattle.cobol_checker.specs.Outcome.{KeepsRules, IsRefused}
 
 -- which paragraphs reach themselves is determined
 on-cycles-once : (all : List Arrow) (number : ℕ) (paragraphs : List Paragraph) (lines others : List Line) → AreOnCycles all number paragraphs lines → AreOnCycles all number paragraphs others → lines ≡ others
@@ -45,9 +45,8 @@ same-faults program fault one other two =
 none-is-least : (fault : Fault) → IsLeast [] fault → ⊥
 none-is-least fault least = omega (arith, least.among.1)
 
-pub never_both : (checked : CheckedValue) (fault : Fault) → IsInProfile checked → IsRefused checked.program fault → ⊥
-never_both checked fault is refused =
-    let program = checked.program in
+pub never_both : (program : Program) (fault : Fault) → KeepsRules program → IsRefused program fault → ⊥
+never_both program fault is refused =
     let same : program_faults program refused.items refused.screens refused.cycles ≡ [] =
     same-list program refused.items is.items refused.screens is.screens refused.cycles is.cycles
     (items_once program.front refused.items is.items refused.items_are is.items_are)

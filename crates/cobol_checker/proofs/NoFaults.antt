@@ -21,7 +21,7 @@ use Rattle.entry_clauses.specs.Spelled.{is_too_wide}
 use Rattle.front_rules.specs.Kinds.{wrong_kinds, wrong_in_environment, wrong_in_data, is_item_of_wrong_kind}
 use Rattle.screen_rules.specs.ScreenKinds.{is_screen_of_wrong_kind}
 use Rattle.front_rules.specs.Levels.{misplaced_entries}
-use Rattle.front_rules.specs.KeyPlaces.{bad_key_places, has_bad_keys}
+use Rattle.key_rules.specs.KeyPlaces.{bad_key_places, has_bad_keys}
 use Rattle.front_rules.specs.Outside.{left_out, is_file_outside, is_item_outside, is_screen_outside}
 use Rattle.screen_rules.specs.Placing.{off_screen}
 use Rattle.name_rules.specs.Subscripts.{miscounted_subscripts}

@@ -9,9 +9,9 @@ use Rattle.cob_base.specs.declared.file_entries.FileEntry.{FileEntry}
 use Rattle.data_names.specs.Items.{DataItem}
 use Rattle.data_names.specs.Spots.{Spot, spots, spots_after, spot_of}
 use Rattle.data_names.proofs.Surveys.{length-spots}
-use Rattle.front_rules.specs.declared.descriptions.Description.{Description}
-use Rattle.front_rules.specs.KeyPlaces.{description_of}
-use Rattle.front_rules.specs.Descriptions.{IsDescriptionOf, is_record_under}
+use Rattle.key_rules.specs.declared.descriptions.Description.{Description}
+use Rattle.key_rules.specs.KeyPlaces.{description_of}
+use Rattle.key_rules.specs.Descriptions.{IsDescriptionOf, is_record_under}
 use Rattle.cobol_checker.specs.Sound.{IsSoundFile, IsRecordAt}
 use Rattle.cobol_checker.specs.Shapes.{record_of}
 

@@ -1,6 +1,6 @@
 -- The picture and the size of an entry of a screen, as the rules on the front and as the plans of screens read them.
 use Rattle.std.proofs.Common.{◌≡◌, ◌∙◌, inl, inr, refl, sym, ap, subst, ℕ, Bool, true, false, List, length, Option, Some, None, is_some}
-use Rattle.std.specs.Prelude.{if◌then◌else◌}
+use Rattle.std.specs.Prelude.{if◌then◌else◌, ◌||◌}
 use Rattle.picture_rule.specs.Picture.{Form, PictureValue, signed_at}
 use Rattle.picture_rule.specs.Text.{Spells, Fits, picture_of}
 use Rattle.picture_rule.specs.declared.kind.PictureKind.{PictureKind}
@@ -23,8 +23,8 @@ pub record SamePicture (text value : Option (List ℕ)) (known size : Option ℕ
   pub pictured : is_some text ≡ true → (p : PictureValue) × (seen ≡ Some p) × (picture ≡ Some p)
 
 -- the bytes that the rules say an entry shows
-abbrev pub known_size : Option (List ℕ) → Option (List ℕ) → Spelled → ℕ → Option ℕ
-known_size text value spelled size = if is_some text then (if is_unreadable spelled then None else Some size) else Some (text_size value)
+abbrev pub known_size : Option (List ℕ) → Option (List ℕ) → Spelled → Bool → ℕ → Option ℕ
+known_size text value spelled signed size = if is_some text then (if is_unreadable spelled || signed then None else Some size) else Some (text_size value)
 
 same_text : (value : Option (List ℕ)) → length (text_or_none value) ≡ text_size value
 same_text None = refl
@@ -63,7 +63,7 @@ fitting text value item_size picture kind size seen read told (inr (inr t)) =
 
 same_picture : (text value : Option (List ℕ)) (spelled : Spelled) (item_size : ℕ) (picture : Option PictureValue) (kind : Option PictureKind) (size : Option ℕ) (seen : Option PictureValue)
     → IsRead text Inside spelled item_size picture → IsTold text kind false → is_unreadable spelled ≡ false → is_too_wide spelled ≡ false → IsSeen text value size seen
-    → SamePicture text value (known_size text value spelled item_size) size seen picture
+    → SamePicture text value (known_size text value spelled false item_size) size seen picture
 same_picture None value spelled item_size picture kind size seen read told u w h =
     record { bytes = text_size value; shown = refl; size_is = h.0 ∙ ap Some (same_text value); pictured = λ none. cc none }
 same_picture (Some text) value s.Missing item_size picture kind size seen read told u w h = absurd read
@@ -73,6 +73,7 @@ same_picture (Some text) value s.Fits item_size picture kind size seen read told
 
 pub picture_same : (text value : Option (List ℕ)) (spelled : Spelled) (item_size : ℕ) (picture : Option PictureValue) (kind : Option PictureKind) (signed : Bool) (size : Option ℕ) (seen : Option PictureValue)
     → IsRead text Inside spelled item_size picture → IsTold text kind signed → signed ≡ false → is_unreadable spelled ≡ false → is_too_wide spelled ≡ false → IsSeen text value size seen
-    → SamePicture text value (known_size text value spelled item_size) size seen picture
+    → SamePicture text value (known_size text value spelled signed item_size) size seen picture
 picture_same text value spelled item_size picture kind signed size seen read told e u w h =
-    same_picture text value spelled item_size picture kind size seen read (subst (λ (b : Bool). IsTold text kind b) e told) u w h
+    subst (λ (b : Bool). SamePicture text value (known_size text value spelled b item_size) size seen picture) (sym e)
+    (same_picture text value spelled item_size picture kind size seen read (subst (λ (b : Bool). IsTold text kind b) e told) u w h)

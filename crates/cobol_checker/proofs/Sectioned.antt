@@ -14,7 +14,7 @@ use Rattle.data_layout.specs.Rows.{AreRows, AreAllRows, data_sections, file_sect
 use Rattle.data_names.specs.Parts.{Source, item_entries, descriptions_of, working_storage_of}
 use Rattle.data_names.specs.Items.{DataItem, AreDataItems, file_sources}
 use Rattle.data_names.specs.Seen.{filed}
-use Rattle.front_rules.specs.KeyPlaces.{same_number}
+use Rattle.key_rules.specs.KeyPlaces.{same_number}
 
 -- a file of a number that is n at least
 abbrev pub IsLater : ℕ → Option ℕ → Type 0

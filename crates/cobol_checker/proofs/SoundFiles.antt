@@ -23,7 +23,7 @@ use Rattle.name_rules.specs.Mentions.{Mention, mention, mentions, references, su
 use Rattle.front_rules.specs.Faults.{front_faults}
 use Rattle.name_rules.specs.UnknownNames.{is_described}
 use Rattle.front_rules.specs.Limits.{is_key_past_limit, has_key_past_limit}
-use Rattle.front_rules.specs.KeyPlaces.{description_of, same_number, is_no_key, are_sized_under, placed_key, same_place, has_twins, has_no_key, are_at_one_place, has_bad_clauses, has_bad_keys}
+use Rattle.key_rules.specs.KeyPlaces.{description_of, same_number, is_no_key, are_sized_under, placed_key, same_place, has_twins, has_no_key, are_at_one_place, has_bad_clauses, has_bad_keys}
 use Rattle.entry_clauses.specs.ScreenItems.{ScreenItem}
 use Rattle.cobol_checker.specs.Judged.{IsFaultless}
 use Rattle.cobol_checker.specs.Shapes.{AreKeyPlaces, record_of}

@@ -18,8 +18,8 @@ use Rattle.data_names.specs.References.{found, only_one, matching, is_match, cou
 use Rattle.data_names.proofs.Cuts.{spot_cut}
 use Rattle.front_rules.specs.Limits.{is_item_past_limit, is_key_past_limit}
 use Rattle.entry_clauses.specs.Spelled.{is_too_wide}
-use Rattle.front_rules.specs.KeyPlaces.{description_of, same_number, is_of_record, is_signed_item, is_no_key, placed_key}
-use Rattle.front_rules.specs.Descriptions.{is_record_under}
+use Rattle.key_rules.specs.KeyPlaces.{description_of, same_number, is_of_record, is_signed_item, is_no_key, placed_key}
+use Rattle.key_rules.specs.Descriptions.{is_record_under}
 use Rattle.cobol_checker.specs.Shapes.{record_of}
 use Rattle.cobol_checker.specs.Sound.{IsPlaceIn}
 use Rattle.cobol_checker.proofs.Sectioned.{Sectioned, one_file, inside_file, first_of_file}

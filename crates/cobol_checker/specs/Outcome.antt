@@ -2,7 +2,7 @@
 --
 -- The items and screens are determined by the program, since a text spells one picture at most, and so are the lines of paragraphs that
 -- reach themselves.
-use Rattle.std.specs.Prelude.{◌≡◌, List, []}
+use Rattle.std.specs.Prelude.{◌≡◌, List, [], All}
 use Rattle.cob_base.specs.declared.line.Line.{Line}
 use Rattle.cob_base.specs.declared.paragraphs.Program.{Program}
 use Rattle.data_layout.specs.declared.layout.Layout.{Layout}
@@ -10,6 +10,7 @@ use Rattle.data_layout.specs.Rows.{sections}
 use Rattle.data_layout.specs.Outcome.{IsLayoutOf}
 use Rattle.screen_layout.specs.declared.plan.ScreenPlan.{ScreenPlan}
 use Rattle.screen_layout.specs.Outcome.{AreScreensOf}
+use Rattle.screen_layout.specs.Plans.{IsPlanOf}
 use Rattle.sharing_table.specs.declared.shape.Shape.{Shape}
 use Rattle.data_names.specs.Parts.{screen_entries}
 use Rattle.name_rules.specs.declared.fault.Fault.{Fault}
@@ -28,18 +29,23 @@ pub record CheckedValue : Type 0 where
   pub screens : List ScreenPlan
   pub shapes : List Shape
 
--- no condition fails, and this is its layout, these the plans of its screens and these its shapes
-pub record IsInProfile (checked : CheckedValue) : Type 0 where
+-- a program in the profile: no condition fails
+pub record KeepsRules (program : Program) : Type 0 where
   pub items : List DataItem
   pub screens : List ScreenItem
   pub cycles : List Line
-  pub items_are : AreDataItems checked.program.front items
-  pub screens_are : AreScreenItems checked.program.front screens
-  pub cycles_are : AreCycleLines checked.program.paragraphs cycles
-  pub faultless : program_faults checked.program items screens cycles ≡ []
+  pub items_are : AreDataItems program.front items
+  pub screens_are : AreScreenItems program.front screens
+  pub cycles_are : AreCycleLines program.paragraphs cycles
+  pub faultless : program_faults program items screens cycles ≡ []
+
+-- No condition fails, and this is its layout, these the plans of its screens and these its shapes. Each plan is one of this layout.
+pub record IsInProfile (checked : CheckedValue) : Type 0 where
+  pub keeps : KeepsRules checked.program
   pub layout_is : IsLayoutOf (sections checked.program.front) checked.layout
-  pub screens_are_planned : AreScreensOf checked.layout (screen_entries checked.program.front) checked.screens
-  pub shapes_are : AreShapes checked.program.front items checked.shapes
+  pub screens_are : AreScreensOf checked.layout (screen_entries checked.program.front) checked.screens
+  pub plans_fit : All (IsPlanOf checked.layout) checked.screens
+  pub shapes_are : AreShapes checked.program.front keeps.items checked.shapes
 
 -- the least fault of this program is this one
 pub record IsRefused (program : Program) (fault : Fault) : Type 0 where

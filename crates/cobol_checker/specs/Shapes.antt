@@ -11,7 +11,7 @@ use Rattle.entry_clauses.specs.Clauses.{Alternate, record_key, alternates}
 use Rattle.data_names.specs.Items.{DataItem}
 use Rattle.data_names.specs.Spots.{Spot, spots, rows_before, bytes_of, is_record}
 use Rattle.data_names.specs.References.{found}
-use Rattle.front_rules.specs.KeyPlaces.{description_of, same_number}
+use Rattle.key_rules.specs.KeyPlaces.{description_of, same_number}
 
 -- the record of a file
 abbrev pub record_of : Front → List DataItem → FileEntry → Option (Spot DataItem)

@@ -10,7 +10,7 @@ use Rattle.data_names.specs.Items.{DataItem}
 use Rattle.data_names.specs.Spots.{Spot, spots, rows_before, bytes_of}
 use Rattle.data_names.specs.References.{found}
 use Rattle.entry_clauses.specs.Clauses.{Alternate, record_key, alternates}
-use Rattle.front_rules.specs.KeyPlaces.{description_of}
+use Rattle.key_rules.specs.KeyPlaces.{description_of}
 use Rattle.cobol_checker.specs.Shapes.{record_of, AreKeyPlaces}
 
 -- an item of 64 bytes at most lies in a record of 512 bytes at most, before which so many bytes stand

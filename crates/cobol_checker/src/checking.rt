@@ -1,4 +1,4 @@
-ghost use Rattle.std.specs.Prelude.{◌≡◌, ◌⊎◌, List, map, IfOk, IfErr};
+ghost use Rattle.std.specs.Prelude.{◌≡◌, ◌⊎◌, List, map, IfOk, IfErr, All};
 ghost use Rattle.cob_base.specs.declared.line.Line.{Line};
 ghost use Rattle.data_layout.specs.declared.row.Row.{Row};
 ghost use Rattle.data_layout.specs.Rows.{sections, AreAllRows};
@@ -6,7 +6,7 @@ ghost use Rattle.data_names.specs.Items.{AreDataItems};
 ghost use Rattle.data_names.specs.Parts.{screen_entries};
 ghost use Rattle.data_names.specs.Seen.{seen_item};
 ghost use Rattle.data_names.specs.Table.{IsTable, items_of};
-ghost use Rattle.front_rules.specs.Descriptions.{AreDescriptions};
+ghost use Rattle.key_rules.specs.Descriptions.{AreDescriptions};
 ghost use Rattle.entry_clauses.specs.SeenScreens.{seen_screen, AreKnownScreens};
 ghost use Rattle.name_rules.specs.Faults.{IsBest};
 ghost use Rattle.name_rules.specs.declared.fault.Fault.{Fault};
@@ -20,15 +20,18 @@ ghost use Rattle.data_layout.specs.declared.fault.LayoutFault.{LayoutFault};
 ghost use Rattle.cobol_checker.specs.Seen.{seen_checked};
 ghost use Rattle.opening_storage.specs.Opening.{IsOpeningOf};
 ghost use Rattle.screen_layout.specs.Outcome.{AreScreensOf};
+ghost use Rattle.screen_layout.specs.Plans.{IsPlanOf};
 ghost use Rattle.screen_layout.specs.declared.fault.ScreenFault.{ScreenFault};
 
 use crate::CheckFault;
+use crate::asking::asked_pairs;
 use crate::shapes::shapes_of;
 use cob_base::{ByteText, Front, Items, NoMemory, Program};
 use data_layout::{Described, Layout, LayoutFault, Row, gather, lay_out};
 use data_names::{KnownItem, Names, Pairs, Table, facts_of, known_items, screen_entries};
 use entry_clauses::{KnownScreen, screen_items};
-use front_rules::{Descriptions, note_front_faults};
+use front_rules::note_front_faults;
+use key_rules::Descriptions;
 use name_rules::{Fault, Faults, least};
 use opening_storage::opening;
 use procedure_rules::note_procedure_faults;
@@ -157,7 +160,8 @@ fn judge_items(
 {
     let facts = facts_of(alloc, items, rows)?;
     let names = Names::of(alloc, items)?;
-    let pairs = Pairs::of(alloc, items, facts.as_slice())?;
+    let asked = asked_pairs(alloc, program, &names)?;
+    let pairs = Pairs::of(alloc, items, facts.as_slice(), asked)?;
     let table = Table {
         items,
         facts: facts.as_slice(),
@@ -216,7 +220,8 @@ fn no_memory(_fault: LayoutFault) -> NoMemory
 fn screens_of(alloc: Global, front: &Front, layout: &Layout) -> Result<Items<ScreenPlan>, NoMemory>
     requires faultless { IsFaultless front.now }
     requires laid_out { IsLayoutOf (sections front.now) layout.now }
-    ensures { IfOk result (λ screens. AreScreensOf layout.now (screen_entries front.now) screens) }
+    ensures plans { IfOk result (λ screens. AreScreensOf layout.now (screen_entries front.now) screens) }
+    ensures of_layout { IfOk result (λ screens. All (IsPlanOf layout.now) screens) }
 {
     match lay_screens(alloc, front, layout) {
         Ok(screens) => Ok(screens),

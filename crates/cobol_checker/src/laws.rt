@@ -1,10 +1,10 @@
 ghost use Rattle.std.specs.Prelude.{◌≡◌};
 ghost use Rattle.cob_base.specs.declared.paragraphs.Program.{Program};
 ghost use Rattle.name_rules.specs.declared.fault.Fault.{Fault};
-ghost use Rattle.cobol_checker.specs.Outcome.{CheckedValue, IsInProfile, IsRefused};
+ghost use Rattle.cobol_checker.specs.Outcome.{KeepsRules, IsRefused};
 
-/// A program is in the profile or refused, never both, and it is refused for one fault.
+/// A program keeps the rules or is refused, never both, and it is refused for one fault.
 pub fn checks_are_definite()
-    ensures never_both { (checked : CheckedValue) (fault : Fault) → IsInProfile checked → IsRefused checked.program fault → ⊥ }
+    ensures never_both { (program : Program) (fault : Fault) → KeepsRules program → IsRefused program fault → ⊥ }
     ensures one_fault { (program : Program) (fault other : Fault) → IsRefused program fault → IsRefused program other → fault ≡ other }
 {}

@@ -1,6 +1,7 @@
 //! Whether a program keeps the rules of the language, and the first rule that it breaks.
 #![tactic(auto)]
 
+mod asking;
 mod checking;
 mod fault;
 mod laws;

@@ -7,7 +7,7 @@ ghost use Rattle.data_names.specs.Table.{IsTable, items_of};
 ghost use Rattle.cob_base.specs.declared.operands.Reference.{Reference};
 ghost use Rattle.entry_clauses.specs.Clauses.{record_key, alternates};
 ghost use Rattle.sharing_table.specs.declared.shape.KeyPlace.{KeyPlace};
-ghost use Rattle.front_rules.specs.Descriptions.{AreDescriptions};
+ghost use Rattle.key_rules.specs.Descriptions.{AreDescriptions};
 ghost use Rattle.cobol_checker.specs.Judged.{IsFaultless};
 ghost use Rattle.cobol_checker.specs.Sound.{IsPlaceAt, IsPlaceOf, IsKeyIn, AreKeysIn, IsPrimeIn, IsRecordAt, AreApart, IsSoundFile, AreSoundFiles, rank};
 ghost use Rattle.cobol_checker.specs.Shapes.{IsKeyPlace, AreKeyPlaces, IsShape, AreShapes, AreShapesOf, AreAscending};
@@ -15,7 +15,7 @@ ghost use Rattle.cobol_checker.specs.Shapes.{IsKeyPlace, AreKeyPlaces, IsShape, 
 use cob_base::{FileClause, FileEntry, Front, Items, NoMemory, Reference};
 use data_names::{Table, files};
 use entry_clauses::file_clauses::record_key;
-use front_rules::Descriptions;
+use key_rules::Descriptions;
 use sharing_table::{KeyPlace, Shape};
 use std::alloc::Global;
 

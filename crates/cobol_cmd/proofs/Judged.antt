@@ -26,11 +26,15 @@ use Rattle.cobol_cmd.specs.declared.fault.ProgramFault.{ProgramFault}
 use Rattle.cobol_cmd.specs.declared.fault.ProgramFault.TheVariants as faults
 use Rattle.cobol_cmd.specs.Commands.{Command}
 use Rattle.cobol_checker.specs.Outcome as checks
-use Rattle.cobol_checker.proofs.Definite as definite
+use Rattle.name_rules.specs.declared.fault.Fault.{Fault}
 use Rattle.cobol_cmd.specs.Checking.{IsProgram}
 use Rattle.cobol_cmd.specs.Small.{Small}
 use Rattle.cobol_cmd.specs.Programs.{HasWords, HasEntries, EndsEarly, HasProgram, HasNoProgram, Prints, Fails}
 use Rattle.cobol_cmd.specs.Answers.{Call, Says, Tells, IsRead, IsRefused, IsTooLong, Refuses, status_of, source_limit}
+
+-- a program that keeps the rules is not refused
+abbrev pub IsKeptAlone : Type 0
+IsKeptAlone = (kept : Program) (fault : Fault) → checks.KeepsRules kept → checks.IsRefused kept fault → ⊥
 
 -- a text has one list of lines
 same_lines : (text : List ℕ) (lines others : List SourceLine) → LinesOf text ≡ Ok lines → LinesOf text ≡ Ok others → lines ≡ others
@@ -68,47 +72,47 @@ same_program law text read other one two =
     let same : one.entries ≡ two.entries = same_entries text one.entries two.entries one.has_entries two.has_entries in
     law.one_reading (map seen_entry two.entries) read other (subst (λ l. IsProgram l read) same one.program) two.program
 
-pub never_both : IsDefinite program → (action : Action) (fault : ProgramFault) (text output : List ℕ) → Prints action text output → Fails action fault text → ⊥
-never_both law Show (faults.Lines fault) text output prints fails =
+pub never_both : IsDefinite program → IsKeptAlone → (action : Action) (fault : ProgramFault) (text output : List ℕ) → Prints action text output → Fails action fault text → ⊥
+never_both law alone Show (faults.Lines fault) text output prints fails =
     let both : Ok prints.has_words.lines ≡ Err fault = sym prints.has_words.has_lines ∙ fails in
     cc both
-never_both law Show (faults.Words fault) text output prints fails =
+never_both law alone Show (faults.Words fault) text output prints fails =
     let lines = same_lines text prints.has_words.lines fails.0 prints.has_words.has_lines fails.1 in
     let both : Ok prints.words ≡ Err fault = sym prints.has_words.has_words ∙ ap WordsOf lines ∙ fails.2 in
     cc both
-never_both law Show (faults.Entries line) text output prints fails =
+never_both law alone Show (faults.Entries line) text output prints fails =
     let other = fails.1 in
     let same : prints.words ≡ other.words = same_words text prints.words other.words prints.has_words other.has_words in
     let P : List Spoken → Type 0 = λ words. Small words prints.line prints.column prints.bytes in
     other.not_small prints.line prints.column prints.bytes (subst P same prints.small)
-never_both law Show (faults.Nesting line) text output prints fails = fails
-never_both law Show (faults.Profile line reason) text output prints fails = fails
-never_both law Show faults.NoMemory text output prints fails = fails
-never_both law Check (faults.Lines fault) text output prints fails =
+never_both law alone Show (faults.Nesting line) text output prints fails = fails
+never_both law alone Show (faults.Profile line reason) text output prints fails = fails
+never_both law alone Show faults.NoMemory text output prints fails = fails
+never_both law alone Check (faults.Lines fault) text output prints fails =
     let words = prints.1.has_entries.has_words in
     let both : Ok words.lines ≡ Err fault = sym words.has_lines ∙ fails in
     cc both
-never_both law Check (faults.Words fault) text output prints fails =
+never_both law alone Check (faults.Words fault) text output prints fails =
     let words = prints.1.has_entries.has_words in
     let lines = same_lines text words.lines fails.0 words.has_lines fails.1 in
     let both : Ok prints.1.has_entries.words ≡ Err fault = sym words.has_words ∙ ap WordsOf lines ∙ fails.2 in
     cc both
-never_both law Check (faults.Entries line) text output prints (inl early) = early_not_entries text line prints.1.entries early prints.1.has_entries
-never_both law Check (faults.Entries line) text output prints (inr other) = program_not_none law text misfits.NoFit line prints.0.program prints.1 other
-never_both law Check (faults.Nesting line) text output prints fails = program_not_none law text misfits.Nesting line prints.0.program prints.1 fails
-never_both law Check (faults.Profile line reason) text output prints fails =
-    let same : fails.0 ≡ prints.0.program = same_program law text fails.0 prints.0.program fails.1 prints.1 in
+never_both law alone Check (faults.Entries line) text output prints (inl early) = early_not_entries text line prints.1.entries early prints.1.has_entries
+never_both law alone Check (faults.Entries line) text output prints (inr other) = program_not_none law text misfits.NoFit line prints.0 prints.1 other
+never_both law alone Check (faults.Nesting line) text output prints fails = program_not_none law text misfits.Nesting line prints.0 prints.1 fails
+never_both law alone Check (faults.Profile line reason) text output prints fails =
+    let same : fails.0 ≡ prints.0 = same_program law text fails.0 prints.0 fails.1 prints.1 in
     let P : Program → Type 0 = λ p. checks.IsRefused p (record { line = line; reason = reason }) in
-    definite.never_both prints.0 (record { line = line; reason = reason }) prints.2 (subst P same fails.2)
-never_both law Check faults.NoMemory text output prints fails = fails
+    alone prints.0 (record { line = line; reason = reason }) prints.2 (subst P same fails.2)
+never_both law alone Check faults.NoMemory text output prints fails = fails
 
 -- what is held is a text for which a command prints something, so it doesn't refuse it
-held_not_refused : IsDefinite program → (action : Action) (fault : ProgramFault) (found : Option (List ℕ)) (text output : List ℕ) → found ≡ Some text → Prints action text output → IsRefused action fault found → ⊥
-held_not_refused law action fault None text output is prints refused = refused
-held_not_refused law action fault (Some other) text output is prints refused =
+held_not_refused : IsDefinite program → IsKeptAlone → (action : Action) (fault : ProgramFault) (found : Option (List ℕ)) (text output : List ℕ) → found ≡ Some text → Prints action text output → IsRefused action fault found → ⊥
+held_not_refused law alone action fault None text output is prints refused = refused
+held_not_refused law alone action fault (Some other) text output is prints refused =
     let same : other ≡ text = cc is in
     let P : List ℕ → Type 0 = λ words. Fails action fault words in
-    never_both law action fault text output prints (subst P same refused.1)
+    never_both law alone action fault text output prints (subst P same refused.1)
 
 none_not_refused : (action : Action) (fault : ProgramFault) (found : Option (List ℕ)) → found ≡ None → IsRefused action fault found → ⊥
 none_not_refused action fault None is refused = refused
@@ -130,18 +134,18 @@ short_is_not_long (Some other) text long some short =
     let P : List ℕ → Type 0 = λ bytes. source_limit < length bytes in
     absurd (omega (arith, subst P same long, short))
 
-module _ (law : IsDefinite program) (asked : Command) (files : List Held) (reads reads_now puts puts_now : ℕ) (taken taken_now : Option (List ℕ)) where
+module _ (law : IsDefinite program) (alone : IsKeptAlone) (asked : Command) (files : List Held) (reads reads_now puts puts_now : ℕ) (taken taken_now : Option (List ℕ)) where
   abbrev call : Option (List Held) → Call
   call held = record { held = held; reads = reads; reads_now = reads_now; puts = puts; puts_now = puts_now; taken = taken; taken_now = taken_now }
 
   refused_says : (answer : Answer) (fault : ProgramFault) → Says answer asked (call (Some files)) → IsRefused asked.action fault (lookup asked.name files)
       → (status_of answer ≡ 3) ⊎ (status_of answer ≡ 6) ⊎ (status_of answer ≡ 9)
-  refused_says Done fault says refused = absurd (held_not_refused law asked.action fault (lookup asked.name files) says.0 says.1 says.2.is_held says.2.prints refused)
+  refused_says Done fault says refused = absurd (held_not_refused law alone asked.action fault (lookup asked.name files) says.0 says.1 says.2.is_held says.2.prints refused)
   refused_says BadWords fault says refused = absurd says.0
   refused_says (Refused other) fault says refused = search rules
   refused_says Missing fault says refused = absurd (none_not_refused asked.action fault (lookup asked.name files) says.0 refused)
   refused_says ReadFault fault says refused = search rules
-  refused_says WriteFault fault says refused = absurd (held_not_refused law asked.action fault (lookup asked.name files) says.0 says.1 says.2.is_held says.2.prints refused)
+  refused_says WriteFault fault says refused = absurd (held_not_refused law alone asked.action fault (lookup asked.name files) says.0 says.1 says.2.is_held says.2.prints refused)
   refused_says TooLong fault says refused = absurd (long_not_refused asked.action fault (lookup asked.name files) says.0 refused)
   refused_says NoMemory fault says refused = search rules
 
@@ -156,7 +160,9 @@ module _ (law : IsDefinite program) (asked : Command) (files : List Held) (reads
       → (Rose reads reads_now → ⊥) → (Rose puts puts_now → ⊥) → (status_of answer ≡ 0) ⊎ (status_of answer ≡ 9)
   complete_says Done text output says found short prints no_read no_put = inl refl
   complete_says BadWords text output says found short prints no_read no_put = absurd says.0
-  complete_says (Refused fault) text output says found short prints no_read no_put = absurd (held_not_refused law asked.action fault (lookup asked.name files) text output found prints says.0)
+  complete_says (Refused fault) text output says found short prints no_read no_put =
+      let P : Option (List ℕ) → Type 0 = λ other. IsRefused asked.action fault other in
+      absurd (held_not_refused law alone asked.action fault (lookup asked.name files) text output found prints (subst P (sym says.0.is_held) (says.0.short, says.0.fails)))
   complete_says Missing text output says found short prints no_read no_put = absurd (none_is_not_some (lookup asked.name files) text says.0 found)
   complete_says ReadFault text output says found short prints no_read no_put = absurd (no_read says.0)
   complete_says WriteFault text output says found short prints no_read no_put = absurd (no_put says.3)
@@ -175,7 +181,9 @@ module _ (law : IsDefinite program) (asked : Command) (files : List Held) (reads
   only_says : (answer : Answer) → Says answer asked (call (Some files)) → status_of answer ≡ 3 → (fault : ProgramFault) × IsRefused asked.action fault (lookup asked.name files)
   only_says Done says is = absurd (omega (arith, is))
   only_says BadWords says is = absurd says.0
-  only_says (Refused fault) says is = (fault, says.0)
+  only_says (Refused fault) says is =
+      let P : Option (List ℕ) → Type 0 = λ found. IsRefused asked.action fault found in
+      (fault, subst P (sym says.0.is_held) (says.0.short, says.0.fails))
   only_says Missing says is = absurd (omega (arith, is))
   only_says ReadFault says is = absurd (omega (arith, is))
   only_says WriteFault says is = absurd (omega (arith, is))

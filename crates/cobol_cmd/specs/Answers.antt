@@ -56,9 +56,16 @@ pub record Call : Type 0 where
   pub taken : Option (List ℕ)
   pub taken_now : Option (List ℕ)
 
+-- a program within its limit was read, which the command refuses for this fault, and it is what the shelf holds, where the shelf tells it
+pub record IsReadAndRefused (held : Option (List Held)) (command : Command) (fault : ProgramFault) : Type 0 where
+  pub text : List ℕ
+  pub short : length text ≤ source_limit
+  pub fails : Fails command.action fault text
+  pub is_held : IfSome held (λ files. lookup command.name files ≡ Some text)
+
 -- why a call refuses a name
 abbrev pub Refuses : Answer → Command → Option (List Held) → Type 0 → Type 0
-Refuses (Refused fault) command held rose = IfSome held (λ files. IsRefused command.action fault (lookup command.name files))
+Refuses (Refused fault) command held rose = IsReadAndRefused held command fault
 Refuses Missing command held rose = IfSome held (λ files. lookup command.name files ≡ None)
 Refuses TooLong command held rose = IfSome held (λ files. IsTooLong (lookup command.name files))
 Refuses ReadFault command held rose = rose

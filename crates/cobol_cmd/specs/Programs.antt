@@ -18,7 +18,7 @@ use Rattle.cobol_cmd.specs.declared.fault.ProgramFault.TheVariants.{Lines, Words
 use Rattle.cobol_cmd.specs.Small.{Small}
 use Rattle.cobol_cmd.specs.Report.{small_report, in_profile}
 use Rattle.cobol_cmd.specs.Checking.{IsProgram, IsNoProgram}
-use Rattle.cobol_checker.specs.Outcome.{CheckedValue, IsInProfile, IsRefused}
+use Rattle.cobol_checker.specs.Outcome.{KeepsRules, IsRefused}
 
 -- the words of a text
 pub record HasWords (text : List ℕ) (words : List Spoken) : Type 0 where
@@ -76,7 +76,7 @@ IsCheckFault entries _ = ⊥
 -- what a command prints for a text
 abbrev pub Prints : Action → List ℕ → List ℕ → Type 0
 Prints Show text output = HasReport text output
-Prints Check text output = (checked : CheckedValue) × HasProgram text checked.program × IsInProfile checked × (output ≡ in_profile)
+Prints Check text output = (read : Program) × HasProgram text read × KeepsRules read × (output ≡ in_profile)
 
 -- the fault for which a command refuses a text: the first of its lines, else the first of its words, else that of its entries
 abbrev pub Fails : Action → ProgramFault → List ℕ → Type 0

@@ -5,7 +5,7 @@ ghost use Rattle.outside_world.specs.Causes.{Rose};
 ghost use Rattle.outside_world.specs.Bytes.{AppendsPrefix, Took};
 ghost use Rattle.outside_world.specs.Stored.{lookup};
 ghost use Rattle.cobol_cmd.specs.declared.fault.ProgramFault.{ProgramFault};
-ghost use Rattle.cobol_cmd.specs.Answers.{Says, Tells, IsRead, Refuses, IsRefused, IsTooLong, IsStatus, Exactly, source_limit, line_for};
+ghost use Rattle.cobol_cmd.specs.Answers.{Says, Tells, IsRead, Refuses, IsRefused, IsReadAndRefused, IsTooLong, IsStatus, Exactly, source_limit, line_for};
 ghost use Rattle.cobol_cmd.specs.Commands.{Command, command};
 ghost use Rattle.cobol_cmd.specs.Lines.{words_line, refused_line, missing_line, read_fault_line, too_long_line};
 ghost use Rattle.cobol_cmd.specs.Programs.{Prints};
@@ -16,6 +16,7 @@ use crate::fault::{
     ProgramFault, text_fault_line, text_fault_reason, word_fault_line, word_fault_reason,
 };
 use crate::program::output_of;
+use cobol_checker::checks_are_definite;
 use outside_world::{Shelf, ShelfFail, Sink, put_all};
 use procedure_parser::programs_are_definite;
 use std::alloc::{AllocError, Global};
@@ -208,7 +209,7 @@ pub fn cobol_plain<H: Shelf, K: Sink>(
         × AppendsPrefix (K.taken out.old) (K.taken out.new) output }
     ensures words_line { result ≡ 2 → Took (K.taken out.old) (K.taken out.new) (K.faults out.old) (K.faults out.new) words_line }
     ensures refused_line { (asked : Command) → command words.now ≡ Some asked → result ≡ 3
-        → (fault : ProgramFault) × IfSome (H.held shelf.old) (λ files. IsRefused asked.action fault (lookup asked.name files))
+        → (fault : ProgramFault) × IsReadAndRefused (H.held shelf.old) asked fault
         × Took (K.taken out.old) (K.taken out.new) (K.faults out.old) (K.faults out.new) (refused_line asked.name fault) }
     ensures missing_line { (asked : Command) → command words.now ≡ Some asked → result ≡ 5
         → Took (K.taken out.old) (K.taken out.new) (K.faults out.old) (K.faults out.new) (missing_line asked.name) }
@@ -224,7 +225,9 @@ pub fn cobol_plain<H: Shelf, K: Sink>(
         → ¬ Rose (H.read_faults shelf.old) (H.read_faults shelf.new) → ¬ Rose (K.faults out.old) (K.faults out.new)
         → (result ≡ 0) ⊎ (result ≡ 9) }
 {
-    // Entries read as one program at most, or as none: without it nothing says that a program is not refused.
+    // Entries read as one program at most, or as none, and a program that keeps the rules is not refused: without these nothing says that
+    // a text for which something is printed is refused nowhere.
     programs_are_definite();
+    checks_are_definite();
     answer(alloc, words, shelf, out).status()
 }

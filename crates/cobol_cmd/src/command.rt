@@ -8,7 +8,7 @@ ghost use Rattle.cobol_cmd.specs.Commands.{is_file_name, command, command_of};
 pub enum Action {
     /// Runs one unit and prints its part of a report.
     Show,
-    /// Reads a program and says whether it is one.
+    /// Reads a program and says whether it keeps the rules.
     Check,
 }
 

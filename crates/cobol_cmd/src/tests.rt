@@ -388,5 +388,11 @@ fn a_checked_program_lends_its_parts(rt: HostRuntime) -> Result<(), Fail> {
         ),
         (24, 3, false)
     );
+    // The record's texts hold spaces and its numbers zeros, the last with its sign before them.
+    let opening = checked.opening(rt.alloc())?;
+    assert_eq!(rt;
+        opening.as_bytes(),
+        b"                        000+00000000".as_slice()
+    );
     Ok(())
 }

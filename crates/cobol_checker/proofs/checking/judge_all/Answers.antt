@@ -17,7 +17,7 @@ shapes_of-requires-clause-faultless c = front_of c.args.program.now (record {
 
 pub returns-in_ok-shapes_of-in-None : goal.returns-in_ok-shapes_of-in-None
 returns-in_ok-shapes_of-in-None c = record {
-  breaks_none = record {
+  keeps = record {
     items = items_of c.args.table.now;
     screens = map seen_screen c.args.screens.now;
     cycles = c.in_ok-fault.ensures.0;
