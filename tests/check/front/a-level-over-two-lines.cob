@@ -1,0 +1,8 @@
+       IDENTIFICATION DIVISION.
+       PROGRAM-ID. P.
+       DATA DIVISION.
+       WORKING-STORAGE SECTION.
+       01 A PIC X.
+       7
+      -7 B PIC Q.
+       PROCEDURE DIVISION.
