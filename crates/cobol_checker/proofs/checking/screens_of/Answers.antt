@@ -18,8 +18,8 @@ same_entries : (d : Option DataDivision) → division_screens d ≡ screens_of d
 same_entries None = refl
 same_entries (Some division) = same_list division.screens
 
-pub returns-in-Ok : goal.returns-in-Ok
-returns-in-Ok c = subst (λ (entries : List ScreenEntry). AreScreensOf c.args.layout.now entries c.in-Ok.screens) (same_entries c.args.front.now.data) c.in-Ok.ensures.plans
+pub returns-in-Ok-clause-plans : goal.returns-in-Ok-clause-plans
+returns-in-Ok-clause-plans c = subst (λ (entries : List ScreenEntry). AreScreensOf c.args.layout.now entries c.in-Ok.screens) (same_entries c.args.front.now.data) c.in-Ok.ensures.plans
 
 pub no_memory_of_screens-requires : goal.no_memory_of_screens-requires
 no_memory_of_screens-requires c =
