@@ -18,6 +18,8 @@ use Rattle.cobol_words.specs.Text.{WordsOf}
 use Rattle.outside_world.specs.declared.shelf.Held.{Held}
 use Rattle.outside_world.specs.Causes.{Rose}
 use Rattle.outside_world.specs.Stored.{lookup}
+use Rattle.std.specs.Io.KnownBytes.{Appends}
+use Rattle.outside_world.specs.Bytes.{AppendsPrefix}
 use Rattle.cobol_cmd.specs.declared.answer.Answer.{Answer}
 use Rattle.cobol_cmd.specs.declared.answer.Answer.TheVariants.{Done, BadWords, Refused, Missing, ReadFault, WriteFault, TooLong, NoMemory}
 use Rattle.cobol_cmd.specs.declared.command.Action.{Action}
@@ -196,3 +198,51 @@ module _ (law : IsDefinite program) (alone : IsKeptAlone) (asked : Command) (fil
       let P : Option Command → Type 0 = λ c. Tells answer c (call held) in
       let Q : Option (List Held) → Type 0 = λ h. Says answer asked (call h) in
       only_says answer (subst Q is_held (subst P is_asked tells))
+
+-- ---- the statuses 0 and 7 come only where a text was read
+
+module _ (held : Option (List Held)) (reads reads_now puts puts_now : ℕ) (taken taken_now : Option (List ℕ)) where
+  abbrev any_call : Call
+  any_call = record { held = held; reads = reads; reads_now = reads_now; puts = puts; puts_now = puts_now; taken = taken; taken_now = taken_now }
+
+  done_says : (answer : Answer) (asked : Command) → Says answer asked any_call → status_of answer ≡ 0
+      → (text output : List ℕ) × IsRead held asked text output × Appends taken taken_now output
+  done_says Done asked says is = says
+  done_says BadWords asked says is = absurd says.0
+  done_says (Refused fault) asked says is = absurd (omega (arith, is))
+  done_says Missing asked says is = absurd (omega (arith, is))
+  done_says ReadFault asked says is = absurd (omega (arith, is))
+  done_says WriteFault asked says is = absurd (omega (arith, is))
+  done_says TooLong asked says is = absurd (omega (arith, is))
+  done_says NoMemory asked says is = absurd (omega (arith, is))
+
+  pub done_tells : (answer : Answer) (command : Option Command) → Tells answer command any_call → status_of answer ≡ 0
+      → (asked : Command) × (text output : List ℕ) × (command ≡ Some asked) × IsRead held asked text output × Appends taken taken_now output
+  done_tells answer None tells is =
+      let two : 2 ≡ 0 = sym (ap status_of tells.0) ∙ is in
+      absurd (omega (arith, two))
+  done_tells answer (Some asked) tells is =
+      let done = done_says answer asked tells is in
+      (asked, done.0, done.1, refl, done.2, done.3)
+
+  cut_says : (answer : Answer) (asked : Command) → Says answer asked any_call → status_of answer ≡ 7
+      → (text output : List ℕ) × IsRead held asked text output × AppendsPrefix taken taken_now output
+  cut_says Done asked says is = absurd (omega (arith, is))
+  cut_says BadWords asked says is = absurd says.0
+  cut_says (Refused fault) asked says is = absurd (omega (arith, is))
+  cut_says Missing asked says is = absurd (omega (arith, is))
+  cut_says ReadFault asked says is = absurd (omega (arith, is))
+  cut_says WriteFault asked (text, output, read, rose, prefix) is = (text, output, read, prefix)
+  cut_says TooLong asked says is = absurd (omega (arith, is))
+  cut_says NoMemory asked says is = absurd (omega (arith, is))
+
+  pub cut_tells : (answer : Answer) (command : Option Command) → Tells answer command any_call → status_of answer ≡ 7
+      → (asked : Command) × (text output : List ℕ) × (command ≡ Some asked) × IsRead held asked text output × AppendsPrefix taken taken_now output
+  cut_tells answer None tells is =
+      let two : 2 ≡ 7 = sym (ap status_of tells.0) ∙ is in
+      absurd (omega (arith, two))
+  cut_tells answer (Some asked) tells is = with_asked (cut_says answer asked tells is)
+    where
+      with_asked : (text output : List ℕ) × IsRead held asked text output × AppendsPrefix taken taken_now output
+          → (found : Command) × (text output : List ℕ) × (Some asked ≡ Some found) × IsRead held found text output × AppendsPrefix taken taken_now output
+      with_asked (text, output, read, prefix) = (asked, text, output, refl, read, prefix)
