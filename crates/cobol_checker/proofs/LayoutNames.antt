@@ -20,7 +20,7 @@ use Rattle.data_names.proofs.NumbersOf.{numbers-more, added_or_not}
 use Rattle.data_names.proofs.Choices.{pairs_from, ArePlaced, are_placed, numbers_of_pairs, values_of_pairs}
 use Rattle.data_names.proofs.Surveys.{length-spots}
 use Rattle.data_layout.specs.Occurrences.{around_item}
-use Rattle.screen_layout.specs.Names.{is_named, are_qualifiers, matches, numbers_where, matched_by, is_only, only_item}
+use Rattle.screen_names.specs.Names.{is_named, are_qualifiers, matches, numbers_where, matched_by, is_only, only_item}
 use Rattle.data_layout.specs.Occurrences as s
 use Rattle.data_names.proofs.Cuts.{opened-map}
 use Rattle.cobol_checker.proofs.Innermost.{Inner, innermost}

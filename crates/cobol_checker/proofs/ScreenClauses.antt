@@ -10,8 +10,8 @@ use Rattle.data_names.specs.Clauses.{first_of}
 use Rattle.entry_clauses.specs.Clauses.{line_named, column_named, shown_text, screen_picture_text, sender, receiver, both_ways, foreground, background, is_of_screen_kind, are_several, is_screen_clause_twice}
 use Rattle.entry_clauses.specs.declared.screen_clauses.ScreenClauseKind.{ScreenClauseKind}
 use Rattle.entry_clauses.specs.declared.screen_clauses.ScreenClauseKind.TheVariants as n
-use Rattle.screen_layout.specs.declared.clauses.ClauseKind.{ClauseKind}
-use Rattle.screen_layout.specs.Clauses.{own_clauses, value_text, picture_text, from_operand, to_reference, using_reference, is_of, is_twice, all_kinds}
+use Rattle.screen_rows.specs.declared.clauses.ClauseKind.{ClauseKind}
+use Rattle.screen_rows.specs.Clauses.{own_clauses, value_text, picture_text, from_operand, to_reference, using_reference, is_of, is_twice, all_kinds}
 
 pub line_is : (clauses : List ScreenClause) → (own_clauses clauses).line ≡ first_of line_named clauses
 line_is [] = refl

@@ -14,9 +14,9 @@ use Rattle.data_layout.specs.declared.layout.Layout.{Layout}
 use Rattle.data_names.specs.Items.{DataItem}
 use Rattle.screen_rules.specs.ScreenKinds.{is_literal, is_bad_move, is_bad_constant, is_bad_sender, is_bad_receiver, is_bad_both_ways}
 use Rattle.name_rules.specs.Mentions.{picture_found}
-use Rattle.screen_layout.specs.declared.plan.Show.{Show}
-use Rattle.screen_layout.specs.declared.plan.Show.TheVariants as s
-use Rattle.screen_layout.specs.Rows.{target, source, sink, literal_picture, constant_shown, as_text, operand_shown, content_by}
+use Rattle.screen_rows.specs.declared.row.Show.{Show}
+use Rattle.screen_rows.specs.declared.row.Show.TheVariants as s
+use Rattle.screen_rows.specs.Rows.{target, source, sink, literal_picture, constant_shown, as_text, operand_shown, content_by}
 use Rattle.cobol_checker.proofs.LaidOut.{neither}
 
 pub not_false : (b : Bool) → not b ≡ false → b ≡ true

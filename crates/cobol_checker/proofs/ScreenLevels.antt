@@ -10,7 +10,7 @@ use Rattle.data_names.specs.Clauses.{first_of}
 use Rattle.entry_clauses.specs.Clauses.{line_named, column_named}
 use Rattle.entry_clauses.specs.ScreenItems.{ScreenItem}
 use Rattle.screen_rules.specs.Placing.{shown_size}
-use Rattle.screen_layout.specs.declared.row.ScreenRow.{ScreenRow}
+use Rattle.screen_rows.specs.declared.row.ScreenRow.{ScreenRow}
 use Rattle.screen_layout.specs.Placing as s
 
 -- an entry as both see it

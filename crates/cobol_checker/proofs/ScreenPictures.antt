@@ -13,7 +13,7 @@ use Rattle.data_names.specs.Items.{IsTold}
 use Rattle.data_names.proofs.Forms.{spells_once}
 use Rattle.entry_clauses.specs.Spelled.{is_too_wide}
 use Rattle.screen_rules.specs.Placing.{text_size}
-use Rattle.screen_layout.specs.Rows.{IsSeen, unless_signed, text_or_none}
+use Rattle.screen_rows.specs.Rows.{IsSeen, unless_signed, text_or_none}
 
 -- a size that both know, and the picture of what is written after PICTURE
 pub record SamePicture (text value : Option (List ℕ)) (known size : Option ℕ) (seen picture : Option PictureValue) : Type 0 where

@@ -14,7 +14,7 @@ use Rattle.data_names.specs.Clauses.{first_of, or_next}
 use Rattle.entry_clauses.specs.Clauses.{line_named, column_named}
 use Rattle.entry_clauses.specs.ScreenItems.{ScreenItem}
 use Rattle.screen_rules.specs.Placing as f
-use Rattle.screen_layout.specs.declared.row.ScreenRow.{ScreenRow}
+use Rattle.screen_rows.specs.declared.row.ScreenRow.{ScreenRow}
 use Rattle.screen_layout.specs.declared.place.Spot.{Spot}
 use Rattle.screen_layout.specs.declared.place.Spot.TheVariants.{On}
 use Rattle.screen_layout.specs.declared.place.Start.{Start}

@@ -29,8 +29,8 @@ use Rattle.entry_clauses.specs.Clauses.{sender, receiver, both_ways}
 use Rattle.name_rules.specs.Mentions.{Mention, mention, mentions, references, subscript_items, references_of_screen, references_of_file, reference_of_crt, reference_in, is_subscripted}
 use Rattle.name_rules.specs.Subscripts.{is_miscounted}
 use Rattle.data_layout.specs.Occurrences.{around_item}
-use Rattle.screen_layout.specs.Names.{is_single}
-use Rattle.screen_layout.specs.Rows.{single_or_none}
+use Rattle.screen_names.specs.Names.{is_single}
+use Rattle.screen_rows.specs.Rows.{single_or_none}
 use Rattle.cobol_checker.proofs.LayoutNames.{Numbered, Seen, seen, known, Named, named_once}
 use Rattle.cobol_checker.proofs.ScreenContents.{Aims, OptionAims, OperandAims}
 use Rattle.cobol_checker.proofs.LaidOut.{neither}

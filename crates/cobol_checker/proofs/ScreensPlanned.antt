@@ -28,10 +28,10 @@ use Rattle.entry_clauses.specs.Spelled.{is_too_wide}
 use Rattle.screen_rules.specs.ScreenKinds.{has_bad_screen_level, is_no_colour, is_tied, has_picture_clause, has_text_clause, is_full_group, is_half, is_overfull, has_bad_contents, has_two_lights, has_bad_clauses, has_bad_move, is_bad_sender, is_bad_receiver, is_bad_both_ways, is_screen_of_wrong_kind}
 use Rattle.screen_rules.specs.Placing as f
 use Rattle.screen_layout.specs.declared.fault.ScreenFault.{ScreenFault}
-use Rattle.screen_layout.specs.declared.row.ScreenRow.{ScreenRow}
-use Rattle.screen_layout.specs.declared.row.Content.{Content}
-use Rattle.screen_layout.specs.Clauses.{own_clauses, value_text, picture_text, to_reference, using_reference, is_twice}
-use Rattle.screen_layout.specs.Rows.{content_of, content_by, by_value, has_operand, has_content, is_past_colours, is_bad_look, is_bad_pairing, next_level, IsSeen, IsScreenRow, AreScreenRows}
+use Rattle.screen_rows.specs.declared.row.ScreenRow.{ScreenRow}
+use Rattle.screen_rows.specs.declared.row.Content.{Content}
+use Rattle.screen_rows.specs.Clauses.{own_clauses, value_text, picture_text, to_reference, using_reference, is_twice}
+use Rattle.screen_rows.specs.Rows.{content_of, content_by, by_value, has_operand, has_content, is_past_colours, is_bad_look, is_bad_pairing, next_level, IsSeen, IsScreenRow, AreScreenRows}
 use Rattle.screen_layout.specs.Placing.{is_off_screen}
 use Rattle.screen_layout.specs.Placing as s
 use Rattle.screen_layout.specs.ScreenFaults.{fault_where, faults_after, screen_faults, IsLeast}

@@ -1,7 +1,7 @@
 -- The faults of screen rows, one more at a time.
 use Rattle.std.proofs.Common.{◌≡◌, ℕ, ◌+◌, ◌<◌, ◌≤◌, sym, ◌∙◌, ap, subst, Bool, add-one, drop-cons, List, [], ◌∷◌, ◌++◌, length, take, drop, get_or, append_assoc, append-nil, Option}
 use Rattle.std.proofs.lemmas.List.{take_more, drop_all}
-use Rattle.screen_layout.specs.declared.row.ScreenRow.{ScreenRow}
+use Rattle.screen_rows.specs.declared.row.ScreenRow.{ScreenRow}
 use Rattle.screen_layout.specs.declared.fault.ScreenFault.{ScreenFault}
 use Rattle.screen_layout.specs.declared.walk.ScreenWalk.{ScreenWalk}
 use Rattle.screen_layout.specs.ScreenFaults.{fault_where, row_faults, faults_after, screen_faults}

@@ -9,7 +9,7 @@ use Rattle.screen_layout.specs.declared.place.Spot.{Spot}
 use Rattle.screen_layout.specs.declared.place.Spot.TheVariants.{On, Off}
 use Rattle.screen_layout.specs.declared.place.Start.{Start}
 use Rattle.screen_layout.specs.declared.place.End.{End}
-use Rattle.screen_layout.specs.declared.row.ScreenRow.{ScreenRow}
+use Rattle.screen_rows.specs.declared.row.ScreenRow.{ScreenRow}
 use Rattle.screen_layout.specs.Placing.{spot_of, counted_from, line_at, column_at, start_of, is_end_off, known, last_column, end_of, no_item, begun, is_off, is_start_off, given}
 
 -- both parts of an end are known

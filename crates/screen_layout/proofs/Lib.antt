@@ -1,8 +1,4 @@
 pub mod ActsInOrder
-pub mod Tables
-pub mod NamedItems
-pub mod Chains
-pub mod ReadRows
 pub mod ScreenGroups
 pub mod Bests
 pub mod JudgedScreens
@@ -11,4 +7,3 @@ pub mod KnownPlaces
 pub mod SoundItems
 pub mod PlannedScreens
 pub mod SoundRows
-pub mod PairLists

@@ -3,10 +3,10 @@ use Rattle.std.proofs.Common.{◌≡◌, ℕ, ◌+◌, ◌<◌, refl, sym, ◌�
 use Rattle.std.specs.Prelude.{filter, fold, if◌then◌else◌}
 use Rattle.std.proofs.lemmas.List.{take_more}
 use Rattle.std.proofs.lemmas.List.Elements.{filter-append}
-use Rattle.screen_layout.specs.declared.row.ScreenRow.{ScreenRow}
-use Rattle.screen_layout.specs.declared.clauses.Look.{Look}
+use Rattle.screen_rows.specs.declared.row.ScreenRow.{ScreenRow}
+use Rattle.screen_rows.specs.declared.clauses.Look.{Look}
 use Rattle.screen_layout.specs.Placing.{goes_on, opened, within_look, look_of}
-use Rattle.screen_layout.specs.Clauses.{plain_look}
+use Rattle.screen_rows.specs.Clauses.{plain_look}
 
 abbrev pub nested : Look → List ScreenRow → Look
 nested look rows = fold (λ outer group. within_look outer group.own.look) look rows

@@ -7,8 +7,8 @@ use Rattle.std.proofs.lemmas.List.Folds.{list_all-append}
 use Rattle.std.proofs.lemmas.List.Elements.{All-push, All-append, All-nil, All-cons, All-head, All-tail}
 use Rattle.data_layout.specs.Rows.{rank}
 use Rattle.data_layout.specs.declared.layout.Layout.{Layout}
-use Rattle.screen_layout.specs.declared.row.ScreenRow.{ScreenRow}
-use Rattle.screen_layout.specs.declared.row.Content.{Content}
+use Rattle.screen_rows.specs.declared.row.ScreenRow.{ScreenRow}
+use Rattle.screen_rows.specs.declared.row.Content.{Content}
 use Rattle.screen_layout.specs.declared.plan.Placed.{Placed}
 use Rattle.screen_layout.specs.declared.plan.ScreenPlan.{ScreenPlan}
 use Rattle.screen_layout.specs.declared.fault.ScreenFault.{ScreenFault}
@@ -17,7 +17,7 @@ use Rattle.screen_layout.specs.declared.walk.ScreenWalk.{ScreenWalk}
 use Rattle.screen_layout.specs.Placing.{level_fits, is_off_screen, is_start_off, place_of, end_after, end_of, begun, start_of}
 use Rattle.screen_layout.specs.Plans.{IsPlacedIn, IsPlanOf}
 use Rattle.screen_layout.specs.Outcome.{HasItems, ArePlans, IsPlaced, plan_of}
-use Rattle.screen_layout.specs.Rows.{is_past_colours}
+use Rattle.screen_rows.specs.Rows.{is_past_colours}
 use Rattle.screen_layout.specs.ScreenFaults.{fault_where, row_faults, faults_after, screen_faults}
 use Rattle.screen_layout.specs.Planned.{CanBePlaced, AreSound, with_items}
 use Rattle.screen_layout.specs.Walk.{IsAfter}

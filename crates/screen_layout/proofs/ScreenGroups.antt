@@ -4,7 +4,7 @@ use Rattle.std.specs.Prelude.{filter, if◌then◌else◌, slice_get}
 use Rattle.std.specs.List.{list_all, last_or, filter_map}
 use Rattle.std.proofs.lemmas.List.Folds.{list_all-append}
 use Rattle.std.proofs.lemmas.List.Elements.{filter_map-append}
-use Rattle.screen_layout.specs.declared.row.ScreenRow.{ScreenRow}
+use Rattle.screen_rows.specs.declared.row.ScreenRow.{ScreenRow}
 use Rattle.screen_layout.specs.declared.place.End.{End}
 use Rattle.screen_layout.specs.Placing.{goes_on, opened, groups, is_group, leading, innermost, given, or_outer, end_with, ends_at, end_after, no_item}
 

@@ -7,13 +7,13 @@ use Rattle.std.proofs.lemmas.List.Folds.{list_all-append}
 use Rattle.picture_rule.specs.Picture.{PictureValue}
 use Rattle.data_layout.specs.declared.layout.Layout.{Layout}
 use Rattle.screen_layout.specs.declared.place.Spot.TheVariants.{On}
-use Rattle.screen_layout.specs.declared.clauses.Look.{Look}
-use Rattle.screen_layout.specs.declared.row.ScreenRow.{ScreenRow}
-use Rattle.screen_layout.specs.declared.row.Content.{Content}
+use Rattle.screen_rows.specs.declared.clauses.Look.{Look}
+use Rattle.screen_rows.specs.declared.row.ScreenRow.{ScreenRow}
+use Rattle.screen_rows.specs.declared.row.Content.{Content}
 use Rattle.screen_layout.specs.declared.plan.Placed.{Placed}
-use Rattle.screen_layout.specs.declared.plan.Show.{Show}
-use Rattle.screen_layout.specs.Clauses.{plain_look}
-use Rattle.screen_layout.specs.Rows.{is_past_colours}
+use Rattle.screen_rows.specs.declared.row.Show.{Show}
+use Rattle.screen_rows.specs.Clauses.{plain_look}
+use Rattle.screen_rows.specs.Rows.{is_past_colours}
 use Rattle.screen_layout.specs.Placing.{goes_on, opened, groups, within_look, or_outer, look_of, colour_or, bit, style_by, is_end_off, is_start_off, begun, end_after, place_of}
 use Rattle.screen_layout.specs.Plans.{MayShow, MayFillFrom, IsPlacedIn}
 use Rattle.screen_layout.specs.Outcome.{IsPlaced}

@@ -16,14 +16,14 @@ use Rattle.cob_value.specs.Moves.{may_move}
 use Rattle.data_layout.specs.Layout.{IsInside}
 use Rattle.data_layout.specs.declared.layout.Item.{Item}
 use Rattle.data_layout.specs.declared.layout.Layout.{Layout}
-use Rattle.screen_layout.specs.declared.clauses.Look.{Look}
-use Rattle.screen_layout.specs.declared.row.ScreenRow.{ScreenRow}
-use Rattle.screen_layout.specs.declared.row.Content.{Content}
-use Rattle.screen_layout.specs.declared.plan.Show.{Show}
-use Rattle.screen_layout.specs.declared.plan.Show.TheVariants as s
-use Rattle.screen_layout.specs.Clauses.{own_clauses, value_text, picture_text, from_operand, to_reference, using_reference, is_twice}
-use Rattle.screen_layout.specs.Names.{is_single, only_item}
-use Rattle.screen_layout.specs.Rows.{IsSeen, text_or_none, unless_signed, is_past_colours, is_bad_look, is_bad_pairing, is_bad_by, has_operand, has_content, content_of, content_by, by_value, source, sink, target, single_or_none, where_passes, passes, operand_shown, as_item, as_text, constant_shown, shown_alone, both_or_none, spaces, IsLong, IsLongIn, HasLength, IsScreenRow, AreScreenRows}
+use Rattle.screen_rows.specs.declared.clauses.Look.{Look}
+use Rattle.screen_rows.specs.declared.row.ScreenRow.{ScreenRow}
+use Rattle.screen_rows.specs.declared.row.Content.{Content}
+use Rattle.screen_rows.specs.declared.row.Show.{Show}
+use Rattle.screen_rows.specs.declared.row.Show.TheVariants as s
+use Rattle.screen_rows.specs.Clauses.{own_clauses, value_text, picture_text, from_operand, to_reference, using_reference, is_twice}
+use Rattle.screen_names.specs.Names.{is_single, only_item}
+use Rattle.screen_rows.specs.Rows.{IsSeen, text_or_none, unless_signed, is_past_colours, is_bad_look, is_bad_pairing, is_bad_by, has_operand, has_content, content_of, content_by, by_value, source, sink, target, single_or_none, where_passes, passes, operand_shown, as_item, as_text, constant_shown, shown_alone, both_or_none, spaces, IsLong, IsLongIn, HasLength, IsScreenRow, AreScreenRows}
 use Rattle.screen_layout.specs.Plans.{MayShow, MayFillFrom, IsNamed}
 use Rattle.screen_layout.specs.Planned.{IsSound, AreSound}
 

@@ -1,11 +1,5 @@
 pub mod Painting
-pub mod Names
-pub mod NameTable
-pub mod NamePairs
-pub mod Directory
 pub mod Plans
-pub mod Clauses
-pub mod Rows
 pub mod Placing
 pub mod Walk
 pub mod ScreenFaults

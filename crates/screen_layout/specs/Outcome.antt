@@ -9,9 +9,9 @@ use Rattle.screen_layout.specs.declared.fault.ScreenFault.{ScreenFault}
 use Rattle.screen_layout.specs.declared.plan.ScreenPlan.{ScreenPlan}
 use Rattle.screen_layout.specs.declared.plan.Placed.{Placed}
 use Rattle.screen_layout.specs.declared.place.Spot.TheVariants.{On}
-use Rattle.screen_layout.specs.declared.row.ScreenRow.{ScreenRow}
-use Rattle.screen_layout.specs.declared.row.Content.{Content}
-use Rattle.screen_layout.specs.Rows.{AreScreenRows, text_or_none}
+use Rattle.screen_rows.specs.declared.row.ScreenRow.{ScreenRow}
+use Rattle.screen_rows.specs.declared.row.Content.{Content}
+use Rattle.screen_rows.specs.Rows.{AreScreenRows, text_or_none}
 use Rattle.screen_layout.specs.Placing.{place_of, style_of, blank_of}
 use Rattle.screen_layout.specs.ScreenFaults.{screen_faults, IsLeast}
 

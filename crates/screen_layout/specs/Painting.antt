@@ -10,8 +10,8 @@ use Rattle.data_layout.specs.declared.layout.Layout.{Layout}
 use Rattle.cob_value.specs.Moves.{moved}
 use Rattle.screen_layout.specs.declared.plan.ScreenPlan.{ScreenPlan}
 use Rattle.screen_layout.specs.declared.plan.Placed.{Placed}
-use Rattle.screen_layout.specs.declared.plan.Show.{Show}
-use Rattle.screen_layout.specs.declared.plan.Show.TheVariants as s
+use Rattle.screen_rows.specs.declared.row.Show.{Show}
+use Rattle.screen_rows.specs.declared.row.Show.TheVariants as s
 
 -- ---- what an item shows
 

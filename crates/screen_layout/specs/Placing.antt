@@ -9,14 +9,14 @@ use Rattle.cob_base.specs.declared.screen_entries.Erased.{Erased}
 use Rattle.cob_base.specs.declared.screen_entries.Erased.TheVariants as e
 use Rattle.data_layout.specs.Rows.{rank}
 use Rattle.screen_cells.specs.declared.cell.Style.{Style}
-use Rattle.screen_layout.specs.declared.row.ScreenRow.{ScreenRow}
+use Rattle.screen_rows.specs.declared.row.ScreenRow.{ScreenRow}
 use Rattle.screen_layout.specs.declared.place.Spot.{Spot}
 use Rattle.screen_layout.specs.declared.place.Spot.TheVariants as spots
 use Rattle.screen_layout.specs.declared.place.End.{End}
 use Rattle.screen_layout.specs.declared.place.Start.{Start}
-use Rattle.screen_layout.specs.declared.clauses.Look.{Look}
+use Rattle.screen_rows.specs.declared.clauses.Look.{Look}
 use Rattle.screen_layout.specs.declared.plan.Blank.{Blank}
-use Rattle.screen_layout.specs.Clauses.{plain_look}
+use Rattle.screen_rows.specs.Clauses.{plain_look}
 
 -- ---- levels
 

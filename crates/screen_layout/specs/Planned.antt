@@ -1,15 +1,15 @@
 -- What a row without a fault has.
 use Rattle.std.specs.Prelude.{◌≡◌, ℕ, ◌<◌, false, List, [], ◌∷◌, ◌++◌, Some}
 use Rattle.data_layout.specs.declared.layout.Layout.{Layout}
-use Rattle.screen_layout.specs.Rows.{is_past_colours}
+use Rattle.screen_rows.specs.Rows.{is_past_colours}
 use Rattle.screen_layout.specs.Plans.{MayShow, MayFillFrom, IsPlacedIn}
 use Rattle.screen_layout.specs.Outcome.{IsPlaced}
 use Rattle.picture_rule.specs.Picture.{PictureValue}
 use Rattle.screen_layout.specs.declared.place.Spot.TheVariants.{On}
 use Rattle.screen_layout.specs.declared.plan.ScreenPlan.{ScreenPlan}
 use Rattle.screen_layout.specs.declared.plan.Placed.{Placed}
-use Rattle.screen_layout.specs.declared.row.ScreenRow.{ScreenRow}
-use Rattle.screen_layout.specs.declared.row.Content.{Content}
+use Rattle.screen_rows.specs.declared.row.ScreenRow.{ScreenRow}
+use Rattle.screen_rows.specs.declared.row.Content.{Content}
 use Rattle.screen_layout.specs.Placing.{place_of, look_of, colour_or}
 
 -- the plan with one more item

@@ -5,11 +5,11 @@ use Rattle.data_layout.specs.declared.layout.Layout.{Layout}
 use Rattle.data_layout.specs.Layout.{IsInside}
 use Rattle.picture_rule.specs.Picture.{PictureValue}
 use Rattle.cob_value.specs.Moves.{MayMove}
-use Rattle.screen_layout.specs.Names.{is_single}
+use Rattle.screen_names.specs.Names.{is_single}
 use Rattle.screen_layout.specs.declared.plan.ScreenPlan.{ScreenPlan}
 use Rattle.screen_layout.specs.declared.plan.Placed.{Placed}
-use Rattle.screen_layout.specs.declared.plan.Show.{Show}
-use Rattle.screen_layout.specs.declared.plan.Show.TheVariants as s
+use Rattle.screen_rows.specs.declared.row.Show.{Show}
+use Rattle.screen_rows.specs.declared.row.Show.TheVariants as s
 
 -- an item without OCCURS in or above it, which lies within storage
 pub record IsNamed (layout : Layout) (number : ℕ) (item : Item) : Type 0 where

@@ -2,7 +2,7 @@
 use Rattle.std.specs.Prelude.{◌≡◌, ℕ, ◌<◌, ◌≤◌, ◌⊎◌, if◌then◌else◌, Bool, not, ◌||◌, List, [], ◌∷◌, ◌++◌, All, Contains}
 use Rattle.screen_layout.specs.declared.fault.ScreenFault.{ScreenFault}
 use Rattle.screen_layout.specs.declared.fault.ScreenFault.TheVariants.{OffScreen, BadItem, NoMemory}
-use Rattle.screen_layout.specs.declared.row.ScreenRow.{ScreenRow}
+use Rattle.screen_rows.specs.declared.row.ScreenRow.{ScreenRow}
 use Rattle.screen_layout.specs.Placing.{is_off_screen, level_fits}
 
 abbrev pub fault_where : Bool → ScreenFault → List ScreenFault

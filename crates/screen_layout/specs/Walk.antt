@@ -2,7 +2,7 @@
 use Rattle.std.specs.Prelude.{◌≡◌, ◌==◌, Bool, List}
 use Rattle.std.specs.List.{list_any}
 use Rattle.data_layout.specs.Rows.{rank}
-use Rattle.screen_layout.specs.declared.row.ScreenRow.{ScreenRow}
+use Rattle.screen_rows.specs.declared.row.ScreenRow.{ScreenRow}
 use Rattle.screen_layout.specs.declared.walk.Lead.{Lead}
 use Rattle.screen_layout.specs.declared.walk.ScreenWalk.{ScreenWalk}
 use Rattle.screen_layout.specs.Placing.{opened, leading, innermost, end_after}

@@ -3,15 +3,15 @@ ghost use Rattle.screen_layout.specs.Placing.{is_off_screen};
 ghost use Rattle.screen_layout.specs.ScreenFaults.{row_faults, faults_after, screen_faults, fault_where};
 ghost use Rattle.screen_layout.specs.Best.{IsBest};
 ghost use Rattle.screen_layout.specs.Walk.{IsAfter};
-ghost use Rattle.screen_layout.specs.declared.row.ScreenRow.{ScreenRow};
+ghost use Rattle.screen_rows.specs.declared.row.ScreenRow.{ScreenRow};
 ghost use Rattle.screen_layout.specs.declared.fault.ScreenFault.{ScreenFault};
 
 use crate::fault::ScreenFault;
 use crate::least::note_where;
 use crate::place::leaves_screen;
-use crate::row::ScreenRow;
 use crate::walk::ScreenWalk;
 use cob_base::NoMemory;
+use screen_rows::ScreenRow;
 use std::alloc::Global;
 
 /// The least fault, with those of one more row.

@@ -9,9 +9,9 @@ use crate::fault::ScreenFault;
 use crate::judging::least_fault;
 use crate::plan::ScreenPlan;
 use crate::planning::make_plans;
-use crate::rows::read_rows;
 use cob_base::{Front, Items, ScreenEntry};
 use data_layout::Layout;
+use screen_rows::read_rows;
 use std::alloc::Global;
 
 /// The plans of a program's screens, one for each screen entry of level 01, in order. The layout is that of the same program.

@@ -1,34 +1,24 @@
 //! Screens of a program: where each screen item stands, what it shows, and what showing it leaves in the cells.
 #![tactic(auto)]
 
-mod clauses;
-mod constants;
-mod contents;
-mod directory;
 mod fault;
 mod judging;
 mod laying;
 mod least;
 mod levels;
 mod looks;
-mod matching;
-mod names;
 mod painting;
-mod pairs;
 mod place;
 mod plan;
 mod planning;
-mod row;
-mod rows;
 mod walk;
 
-pub use clauses::{ClauseKind, Look, Own};
 pub use fault::ScreenFault;
 pub use laying::lay_screens;
 pub use painting::show_plan;
 pub use place::{End, Spot, Start};
-pub use plan::{Blank, Placed, ScreenPlan, Show};
-pub use row::{Content, ScreenRow};
+pub use plan::{Blank, Placed, ScreenPlan};
+pub use screen_rows::{ClauseKind, Content, Look, Own, ScreenRow, Show};
 
 #[cfg(test)]
 mod test_blanks;

@@ -1,8 +1,8 @@
 ghost use Rattle.std.specs.Prelude.{◌≡◌, ◌+◌, ◌<◌, ◌≤◌, ◌||◌, ◌&&◌, not};
 ghost use Rattle.screen_layout.specs.Placing.{within_look, or_outer, style_by, bit, colour_or};
 
-use crate::clauses::Look;
 use screen_cells::Style;
+use screen_rows::Look;
 
 /// An entry's own marks and colours in those of its group. HIGHLIGHT and LOWLIGHT replace each other.
 pub fn look_within(outer: Look, own: Look) -> Look

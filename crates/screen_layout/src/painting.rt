@@ -6,11 +6,12 @@ ghost use Rattle.screen_cells.specs.Cells.{Shown, cell_count, cell_number};
 ghost use Rattle.screen_layout.specs.Plans.{IsPlanOf, IsPlacedIn};
 ghost use Rattle.screen_layout.specs.Painting.{Act, act_where, blank_acts, item_acts, first_cell, item_bytes, shown_bytes, AreAfter, IsCursorAfter, PaintedBy};
 
-use crate::plan::{Placed, ScreenPlan, Show};
+use crate::plan::{Placed, ScreenPlan};
 use cob_value::move_bytes;
 use data_layout::{Item, Layout};
 use picture_rule::Picture;
 use screen_cells::Screen;
+use screen_rows::Show;
 
 /// How many cells a line has.
 const LINE_CELLS: u16 = 80;

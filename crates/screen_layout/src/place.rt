@@ -2,9 +2,9 @@ ghost use Rattle.std.specs.Prelude.{◌≡◌, ◌+◌, ◌-◌, ◌<◌, ◌≤
 ghost use Rattle.data_layout.specs.Rows.{rank};
 ghost use Rattle.screen_layout.specs.Placing.{spot_of, counted_from, after_line, after_column, line_at, column_at, start_after, is_end_off, known, last_column, end_of, no_item, begun, is_off, is_start_off};
 
-use crate::levels::rank_of;
-use crate::row::ScreenRow;
 use cob_base::Position;
+use data_layout::rank_of;
+use screen_rows::ScreenRow;
 
 /// A line or a column.
 #[derive(Clone, Copy, Debug)]

@@ -1,6 +1,7 @@
 use cob_base::{ByteText, Items};
 use picture_rule::Picture;
 use screen_cells::Style;
+use screen_rows::Show;
 
 /// A screen of level 01: its elementary items in the order of their entries.
 #[derive(Debug, Drop)]
@@ -39,15 +40,4 @@ pub struct Blank {
     pub line_end: bool,
     /// ERASE EOS: from the item to the screen's end.
     pub screen_end: bool,
-}
-
-/// What an item shows.
-#[derive(Debug, Drop)]
-pub enum Show {
-    /// Nothing: it has no size.
-    Nothing,
-    /// These bytes: a VALUE, a constant after FROM moved into the picture, or the spaces of TO alone.
-    Text(ByteText),
-    /// The item of this number in the layout, which FROM or USING names, moved into the picture.
-    Item(u32),
 }

@@ -1,7 +1,7 @@
 ghost use Rattle.std.specs.Prelude.{◌≡◌, ℕ, ◌<◌, List, [], ◌∷◌, ◌++◌, Some, IfOk, OnOk, if◌then◌else◌};
 ghost use Rattle.picture_rule.specs.Picture.{PictureValue};
 ghost use Rattle.screen_layout.specs.Placing.{goes_on, within_look};
-ghost use Rattle.screen_layout.specs.Rows.{text_or_none};
+ghost use Rattle.screen_rows.specs.Rows.{text_or_none};
 ghost use Rattle.screen_layout.specs.Outcome.{IsPlaced, HasItems, ArePlans, plan_of};
 ghost use Rattle.screen_layout.specs.Walk.{IsAfter};
 ghost use Rattle.screen_layout.specs.Planned.{CanBePlaced, AreSound, with_item, with_items};
@@ -11,23 +11,22 @@ ghost use Rattle.data_layout.specs.Rows.{rank};
 ghost use Rattle.data_layout.specs.declared.layout.Layout.{Layout};
 ghost use Rattle.screen_layout.specs.declared.plan.Placed.{Placed};
 ghost use Rattle.std.specs.Prelude.{◌==◌, All, false};
-ghost use Rattle.screen_layout.specs.declared.row.Content.{Content};
+ghost use Rattle.screen_rows.specs.declared.row.Content.{Content};
 ghost use Rattle.screen_layout.specs.declared.plan.ScreenPlan.{ScreenPlan};
 ghost use Rattle.screen_layout.specs.declared.place.Spot.{Spot};
 ghost use Rattle.screen_layout.specs.Placing.{look_of, opened};
-ghost use Rattle.screen_layout.specs.Clauses.{plain_look};
-ghost use Rattle.screen_layout.specs.declared.row.ScreenRow.{ScreenRow};
+ghost use Rattle.screen_rows.specs.Clauses.{plain_look};
+ghost use Rattle.screen_rows.specs.declared.row.ScreenRow.{ScreenRow};
 
-use crate::clauses::Look;
-use crate::levels::{does_go_on, rank_of};
+use crate::levels::does_go_on;
 use crate::looks::{look_within, style_from};
 use crate::place::Spot;
 use crate::plan::{Placed, ScreenPlan};
-use crate::row::{Content, ScreenRow};
-use crate::rows::ScreenRows;
 use crate::walk::ScreenWalk;
 use cob_base::{ByteText, Items, NoMemory};
+use data_layout::rank_of;
 use picture_rule::Picture;
+use screen_rows::{Content, Look, ScreenRow, ScreenRows};
 use std::alloc::Global;
 
 /// The marks and colours of the next row, with those of the groups that it is in.

@@ -5,13 +5,14 @@ ghost use Rattle.std.specs.List.{last_or};
 ghost use Rattle.std.specs.Prelude.{None, ◌==◌, ◌||◌};
 ghost use Rattle.data_layout.specs.Rows.{rank};
 ghost use Rattle.screen_layout.specs.Walk.{IsLead, IsAfter, any_level};
-ghost use Rattle.screen_layout.specs.declared.row.ScreenRow.{ScreenRow};
+ghost use Rattle.screen_rows.specs.declared.row.ScreenRow.{ScreenRow};
 
-use crate::levels::{does_go_on, rank_of};
+use crate::levels::does_go_on;
 use crate::place::{End, Start, begin_after, begin_screen, end_at, nowhere};
 use crate::plan::Blank;
-use crate::row::ScreenRow;
 use cob_base::{Blanked, Erased, NoMemory, Position};
+use data_layout::rank_of;
+use screen_rows::ScreenRow;
 use std::alloc::Global;
 
 /// What the groups right before a row write for their first item.

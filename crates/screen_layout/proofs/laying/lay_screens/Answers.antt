@@ -1,6 +1,6 @@
 use Rattle.std.proofs.Common.{◌≡◌, ◌∙◌, ap, sym, subst, List, []}
 use Rattle.cob_base.specs.declared.screen_entries.ScreenEntry.{ScreenEntry}
-use Rattle.screen_layout.specs.Rows.{AreScreenRows}
+use Rattle.screen_rows.specs.Rows.{AreScreenRows}
 use Rattle.screen_layout.specs.ScreenFaults.{screen_faults}
 use Rattle.screen_layout.proofs.SoundRows.{sound_rows}
 use Rattle.screen_layout.proofs.laying.lay_screens.Goals as goal

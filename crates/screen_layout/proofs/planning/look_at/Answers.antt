@@ -2,7 +2,7 @@ use Rattle.std.proofs.Common.{◌∙◌, ap}
 use Rattle.std.specs.Prelude.{filter}
 use Rattle.std.proofs.lemmas.List.{take_all}
 use Rattle.screen_layout.specs.Placing.{goes_on}
-use Rattle.screen_layout.specs.Clauses.{plain_look}
+use Rattle.screen_rows.specs.Clauses.{plain_look}
 use Rattle.screen_layout.proofs.NestedLooks.{nested, look_more, look_whole}
 use Rattle.screen_layout.proofs.planning.look_at.Goals as goal
 

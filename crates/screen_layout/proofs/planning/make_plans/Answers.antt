@@ -1,7 +1,7 @@
 use Rattle.std.proofs.Common.{List, take, subst, sym, ◌≤◌, ◌+◌, ◌∷◌, length}
 use Rattle.std.specs.Vec.Iter.{into_iter_items}
-use Rattle.screen_layout.specs.declared.row.ScreenRow.{ScreenRow}
-use Rattle.screen_layout.specs.declared.row.Content.{Content}
+use Rattle.screen_rows.specs.declared.row.ScreenRow.{ScreenRow}
+use Rattle.screen_rows.specs.declared.row.Content.{Content}
 use Rattle.screen_layout.proofs.PlannedScreens.{Planning, planned_more, planned_all}
 use Rattle.screen_layout.proofs.planning.make_plans.Goals as goal
 

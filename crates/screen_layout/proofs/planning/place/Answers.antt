@@ -1,6 +1,6 @@
 use Rattle.std.proofs.Common.{◌∙◌, ap, sym, refl, subst, ◌<◌, Some}
 use Rattle.screen_layout.specs.declared.place.Spot.TheVariants.{On}
-use Rattle.screen_layout.specs.declared.clauses.Look.{Look}
+use Rattle.screen_rows.specs.declared.clauses.Look.{Look}
 use Rattle.screen_layout.specs.Placing.{style_by, colour_or}
 use Rattle.screen_layout.proofs.planning.place.Goals as goal
 

@@ -1,0 +1,3 @@
+pub mod NamedItems
+pub mod Chains
+pub mod PairLists
