@@ -7,7 +7,7 @@ mod finding;
 mod lowest;
 mod plain;
 mod search;
-mod stabbing;
+mod segment_tree;
 mod unseen;
 
 pub use arrows::{Arrow, are_within};

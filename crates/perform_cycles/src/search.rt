@@ -1,6 +1,6 @@
 use crate::arrows::Arrow;
 use crate::finding::{Place, Step};
-use crate::stabbing::Stabbing;
+use crate::segment_tree::SegmentTree;
 use crate::unseen::Unseen;
 use cob_base::NoMemory;
 use std::alloc::Global;
@@ -110,7 +110,7 @@ impl<'a> Forth<'a> {
 #[derive(Drop)]
 struct Back<'a> {
     arrows: &'a [Arrow],
-    ranges: Stabbing,
+    ranges: SegmentTree,
     places: Vec<Place>,
     /// The paragraphs of the group that were taken, and of which the arrows that lead to them were not looked at.
     open: Vec<usize>,
@@ -183,8 +183,8 @@ impl Back<'_> {
     }
 }
 
-fn ranges_of(alloc: Global, count: usize, arrows: &[Arrow]) -> Result<Stabbing, NoMemory> {
-    let mut ranges = Stabbing::new(alloc, count)?;
+fn ranges_of(alloc: Global, count: usize, arrows: &[Arrow]) -> Result<SegmentTree, NoMemory> {
+    let mut ranges = SegmentTree::new(alloc, count)?;
     for (number, arrow) in arrows.iter().enumerate() {
         ranges.add(number, arrow.first, arrow.last.saturating_add(1))?;
     }

@@ -4,21 +4,21 @@ use std::alloc::Global;
 /// Ranges of paragraphs, by the paragraphs that they hold: a tree whose leaves are the paragraphs, with each range at few nodes that
 /// hold together what it holds. Nodes are numbered from 1; the two under a node have twice its number and one more.
 #[derive(Drop)]
-pub struct Stabbing {
+pub struct SegmentTree {
     /// How many leaves there are.
     leaves: usize,
     /// The numbers of the ranges at each node.
     nodes: Vec<Vec<usize>>,
 }
 
-impl Stabbing {
+impl SegmentTree {
     /// No range over so many paragraphs.
-    pub fn new(alloc: Global, count: usize) -> Result<Stabbing, NoMemory> {
+    pub fn new(alloc: Global, count: usize) -> Result<SegmentTree, NoMemory> {
         let mut nodes = Vec::new(alloc);
         for _ in 0..count.saturating_mul(2) {
             nodes.push(Vec::new(alloc))?;
         }
-        Ok(Stabbing {
+        Ok(SegmentTree {
             leaves: count,
             nodes,
         })

@@ -1,4 +1,4 @@
-use Rattle.perform_cycles.proofs.stabbing.Stabbing.add.Given as goal
+use Rattle.perform_cycles.proofs.segment_tree.SegmentTree.add.Given as goal
 
 abbrev pub decreases-loop-low : goal.decreases-loop-low
 decreases-loop-low l = l.high

@@ -1,4 +1,4 @@
-use Rattle.perform_cycles.proofs.stabbing.Stabbing.take.Given as goal
+use Rattle.perform_cycles.proofs.segment_tree.SegmentTree.take.Given as goal
 
 abbrev pub decreases-loop-node : goal.decreases-loop-node
 decreases-loop-node l = l.node
