@@ -21,7 +21,7 @@ use Rattle.cob_base.specs.declared.file_entries.FileEntry.{FileEntry}
 use Rattle.cob_base.specs.declared.line.Line.{Line}
 use Rattle.cob_base.specs.Form.{Form, before, many, is_there}
 use Rattle.cob_base.specs.Form.Form.{word, mark, part, both, after, made, either, optional}
-use Rattle.cob_base.specs.Phrases.{is_text, is_name, key_for, key, full_stop, noise, name, outside_within, reference}
+use Rattle.cob_base.specs.Phrases.{is_text, is_name, key_for, key, full_stop, noise, name, record_or_records, outside_within, reference}
 
 -- ---- SHARING
 
@@ -105,11 +105,6 @@ lock_mode_of _ = None
 
 unfoldable pub lock_mode : Form true LockMode
 lock_mode = after (noise k.Mode) (after (noise k.Is) (mark (key_for lock_mode_of)))
-
-abbrev pub record_or_records : Keyword → Option (Unit {0})
-record_or_records k.Record = Some tt
-record_or_records k.Records = Some tt
-record_or_records _ = None
 
 unfoldable pub lock_on : Form true LockOn
 lock_on = made (λ multiple. record { multiple = multiple })

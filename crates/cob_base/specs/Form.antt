@@ -25,8 +25,6 @@ pub data Form : Bool → Type 0 → Type 1 where
   after : {b c : Bool} {A B : Type 0} → Form b A → Form c B → Form (b || c) B
   -- what stands for x stands for f x
   made : {b : Bool} {A B : Type 0} → (A → B) → Form b A → Form b B
-  -- what stands for x stands for y where f x is Some y, and is no such form where f x is None
-  fits : {b : Bool} {A B : Type 0} → (A → Option B) → Form b A → Form b B
   -- the first exactly where the next words open it, and otherwise the second
   either : {b c : Bool} {A : Type 0} → Form b A → Form c A → Form (b && c) A
   -- there exactly where the next words open it
@@ -111,7 +109,6 @@ starts (Form.up_to p) next needed w = next needed w
 starts (Form.both f g) next needed w = starts f (starts g next) needed w
 starts (Form.after f g) next needed w = starts f (starts g next) needed w
 starts (Form.made h f) next needed w = starts f next needed w
-starts (Form.fits h f) next needed w = starts f next needed w
 starts (Form.either f g) next needed w = starts f next needed w || starts g next needed w
 starts (Form.optional f) next needed w = next needed w || starts f (λ inside. next needed) needed w
 starts (Form.some f) next needed w = starts f (again (starts f) next (length w)) needed w
@@ -160,7 +157,6 @@ Spells (Form.up_to p) w x rest = from_first p w ≡ rest
 Spells (Form.both f g) w x rest = (mid : Words) × Spells f w x.0 mid × Spells g mid x.1 rest
 Spells (Form.after {A = A} f g) w y rest = (x : A) × (mid : Words) × Spells f w x mid × Spells g mid y rest
 Spells (Form.made {A = A} h f) w y rest = (x : A) × Spells f w x rest × (h x ≡ y)
-Spells (Form.fits {A = A} h f) w y rest = (x : A) × Spells f w x rest × (h x ≡ Some y)
 Spells (Form.either f g) w x rest = ((opens f w ≡ true) × Spells f w x rest) ⊎ ((opens f w ≡ false) × Spells g w x rest)
 Spells (Form.optional f) w x rest = IsOptional (opens f) (Spells f) w x rest
 Spells (Form.some f) w x rest = IsSome (opens f) (Spells f) w x rest
@@ -177,7 +173,6 @@ Deep (Form.up_to p) w = ⊥
 Deep (Form.both {A = A} f g) w = Deep f w ⊎ ((x : A) × (mid : Words) × Spells f w x mid × Deep g mid)
 Deep (Form.after {A = A} f g) w = Deep f w ⊎ ((x : A) × (mid : Words) × Spells f w x mid × Deep g mid)
 Deep (Form.made h f) w = Deep f w
-Deep (Form.fits h f) w = Deep f w
 Deep (Form.either f g) w = ((opens f w ≡ true) × Deep f w) ⊎ ((opens f w ≡ false) × Deep g w)
 Deep (Form.optional f) w = (opens f w ≡ true) × Deep f w
 Deep (Form.some {A = A} f) w = Deep f w ⊎ ((x : A) × (mid : Words) × Spells f w x mid × IsDeepMore (opens f) (Spells f) (Deep f) mid)

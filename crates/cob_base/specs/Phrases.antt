@@ -98,6 +98,12 @@ name = word is_name
 unfoldable pub int : Form true ℕ
 int = word is_int
 
+-- RECORD|RECORDS
+abbrev pub record_or_records : Keyword → Option (Unit {0})
+record_or_records k.Record = Some tt
+record_or_records k.Records = Some tt
+record_or_records _ = None
+
 -- one of the words that are read and refused at a place, with all words up to the entry's period
 abbrev pub outside_within : (Token → Option (Unit {0})) → Form true (Unit {0})
 outside_within words = after (mark words) (up_to (λ token. is_there (is_stop token)))

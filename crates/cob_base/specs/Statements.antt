@@ -21,7 +21,7 @@ use Rattle.cob_base.specs.declared.statements.Statement.{Statement}
 use Rattle.cob_base.specs.declared.statements.Statement.TheVariants as s
 use Rattle.cob_base.specs.Form.{Form, Words, before, many, is_there}
 use Rattle.cob_base.specs.Form.Form.{word, mark, part, opened_by, nothing, up_to, both, after, made, either, optional, some, too_deep}
-use Rattle.cob_base.specs.Phrases.{is_text, is_stop, key_for, key, sign, noise, name, outside_within, reference, constant, operand}
+use Rattle.cob_base.specs.Phrases.{is_text, is_stop, key_for, key, sign, noise, name, record_or_records, outside_within, reference, constant, operand}
 use Rattle.cob_base.specs.Expressions.{expr}
 use Rattle.cob_base.specs.Conditions.{cond}
 use Rattle.cob_base.specs.StatementPhrases.{size_error, invalid_key, at_end, exception, else_part, repeated, retry, locking, lock, by_key, into, from, direction, open_phrase, place}
@@ -211,11 +211,6 @@ unfoldable pub close_rest : Form true Statement
 close_rest = made s.Close (some name)
 
 -- RECORD|RECORDS
-abbrev pub record_or_records : Keyword → Option (Unit {0})
-record_or_records k.Record = Some tt
-record_or_records k.Records = Some tt
-record_or_records _ = None
-
 unfoldable pub record_word : Form true (Unit {0})
 record_word = mark (key_for record_or_records)
 

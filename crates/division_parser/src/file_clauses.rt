@@ -4,6 +4,7 @@ ghost use Rattle.std.specs.Prelude.{◌≡◌, Ok};
 ghost use Rattle.cob_base.specs.Form.Form.{optional};
 ghost use Rattle.cob_base.specs.Form.{opens, is_there};
 ghost use Rattle.cob_base.specs.FileEntries as files;
+ghost use Rattle.cob_base.specs.Phrases as shared;
 ghost use Rattle.phrase_parser.specs.Reading.{Gives, read, or_no_fit, seen_rest, seen_words};
 
 use cob_base::{Access, FileClause, Keyword, LockMode, LockOn, MAX_OPEN, Token};
@@ -207,7 +208,7 @@ fn lock_mode(words: &[Token]) -> Option<(LockMode, &[Token])>
 
 /// Whether a reserved word is RECORD or RECORDS.
 fn is_record_or_records(keyword: Keyword) -> bool
-    ensures { result ≡ is_there (files.record_or_records keyword) }
+    ensures { result ≡ is_there (shared.record_or_records keyword) }
 {
     match keyword {
         Keyword::Record => true,

@@ -9,7 +9,7 @@ use crate::data_division::optional_data_division;
 use crate::environment_division::optional_environment;
 use crate::headers::{name_entry, paragraph_header, section_header};
 use cob_base::{ByteText, Entry, Front, Keyword, ParseFault, SeenEntry, see_entries};
-use phrase_parser::{EntryFault, fault_of};
+use phrase_parser::{EntryFault, entries_are_definite, fault_of, reading_is_exact};
 use std::alloc::Global;
 
 /// A front, and how many entries it takes, up to and with the header of the procedure division.
@@ -60,6 +60,7 @@ pub fn parse_front(alloc: Global, entries: &[Entry]) -> Result<FrontRead, ParseF
     requires { length entries.now < 2 ^ 32 }
     ensures { Answers entries.now result }
 {
+    reading_is_exact();
     let seen = see_entries(alloc, entries)?;
     match front(alloc, seen.as_slice()) {
         Ok((front, rest)) => Ok(FrontRead {
@@ -75,4 +76,6 @@ pub fn parse_front(alloc: Global, entries: &[Entry]) -> Result<FrontRead, ParseF
 /// never both.
 pub fn fronts_are_definite()
     ensures { IsDefinite }
-{}
+{
+    entries_are_definite();
+}

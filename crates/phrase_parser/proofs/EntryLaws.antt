@@ -9,6 +9,7 @@ use Rattle.cob_base.specs.Form.{Form, Spells, Deep}
 use Rattle.cob_base.specs.EntryForm.{EntryForm, Entries, opens_entry, begins, Fits, AreMore, AreSome, AreOptional, StopsMore, Reads, Misfits, Stops}
 use Rattle.phrase_parser.specs.Reading.{Outcome, ◌>>=◌, read_more, read_some, read_optional, read}
 use Rattle.phrase_parser.specs.EntryReading.{Stop, EntryOutcome, read_whole, read_entry, read_entries}
+use Rattle.phrase_parser.specs.Laws.{line_at, AreLast, IsExact, IsDefinite}
 use Rattle.phrase_parser.proofs.FormLaws as words
 
 -- ---- what is read takes entries
@@ -114,11 +115,6 @@ reads (EntryForm.optional f) es x rest h = reads_optional (begins f) (Reads f) (
 reads (EntryForm.some f) es x rest h = reads_some (begins f) (Reads f) (read_entries f) (takes f) (reads f) es x rest h
 
 -- ---- what is read is to be read, and where reading stops the entries do
-
--- the line of the entry at a place, where there is one
-abbrev pub line_at : Entries → Option Line
-line_at [] = None
-line_at (e ∷ es) = Some e.line
 
 abbrev pub StopsHere : (Misfit → Entries → Type 0) → Stop → Type 0
 StopsHere Halts stop = (at : Entries) × Halts stop.0 at × (line_at at ≡ stop.1)
@@ -307,36 +303,57 @@ one_stop f es reason other at place p q =
 
 -- ---- the rest are the last of the entries
 
-abbrev pub Ends : Entries → Entries → Type 0
-Ends es rest = (taken : Entries) × (es ≡ taken ++ rest)
-
-ends_whole : (es rest : Entries) → es ≡ rest → Ends es rest
+ends_whole : (es rest : Entries) → es ≡ rest → AreLast rest es
 ends_whole es rest e = ([], e)
 
-ends_then : (es mid rest : Entries) → Ends es mid → Ends mid rest → Ends es rest
+ends_then : (es mid rest : Entries) → AreLast mid es → AreLast rest mid → AreLast rest es
 ends_then es mid rest a b = (a.0 ++ b.0, rw append_assoc (a.1 ∙ ap (λ v. a.0 ++ v) b.1))
 
-ends_entry : {A : Type 0} (f : Line → Form true A) (es : Entries) (x : A) (rest : Entries) → Fits f es x rest → Ends es rest
+ends_entry : {A : Type 0} (f : Line → Form true A) (es : Entries) (x : A) (rest : Entries) → Fits f es x rest → AreLast rest es
 ends_entry f [] x rest h = absurd h
 ends_entry f (e ∷ es) x rest h = (e ∷ [], ap (λ v. e ∷ v) h.1)
 
-module _ {A : Type 0} (begun : Entries → Bool) (Is : Entries → A → Entries → Type 0) (ends_one : (es : Entries) (x : A) (rest : Entries) → Is es x rest → Ends es rest) where
-  ends_more : (es : Entries) (xs : List A) (rest : Entries) → AreMore begun Is es xs rest → Ends es rest
+module _ {A : Type 0} (begun : Entries → Bool) (Is : Entries → A → Entries → Type 0) (ends_one : (es : Entries) (x : A) (rest : Entries) → Is es x rest → AreLast rest es) where
+  ends_more : (es : Entries) (xs : List A) (rest : Entries) → AreMore begun Is es xs rest → AreLast rest es
   ends_more es [] rest h = ends_whole es rest h.1
   ends_more es (x ∷ xs) rest h = ends_then es h.1 rest (ends_one es x h.1 h.2) (ends_more h.1 xs rest h.3)
 
-  ends_some : (es : Entries) (xs : List A) (rest : Entries) → AreSome begun Is es xs rest → Ends es rest
+  ends_some : (es : Entries) (xs : List A) (rest : Entries) → AreSome begun Is es xs rest → AreLast rest es
   ends_some es [] rest h = absurd h
   ends_some es (x ∷ xs) rest h = ends_then es h.0 rest (ends_one es x h.0 h.1) (ends_more h.0 xs rest h.2)
 
-  ends_optional : (es : Entries) (x : Option A) (rest : Entries) → AreOptional begun Is es x rest → Ends es rest
+  ends_optional : (es : Entries) (x : Option A) (rest : Entries) → AreOptional begun Is es x rest → AreLast rest es
   ends_optional es (Some x) rest h = ends_one es x rest h.1
   ends_optional es None rest h = ends_whole es rest h.1
 
-pub ends : {b : Bool} {A : Type 0} (f : EntryForm b A) (es : Entries) (x : A) (rest : Entries) → Reads f es x rest → Ends es rest
+pub ends : {b : Bool} {A : Type 0} (f : EntryForm b A) (es : Entries) (x : A) (rest : Entries) → Reads f es x rest → AreLast rest es
 ends (EntryForm.entry f) es x rest h = ends_entry f es x rest h
 ends (EntryForm.both f g) es x rest h = ends_then es h.0 rest (ends f es x.0 h.0 h.1) (ends g h.0 x.1 rest h.2)
 ends (EntryForm.after f g) es y rest h = ends_then es h.1 rest (ends f es h.0 h.1 h.2) (ends g h.1 y rest h.3)
 ends (EntryForm.made h f) es y rest s = ends f es s.0 rest s.1
 ends (EntryForm.optional f) es x rest h = ends_optional (begins f) (Reads f) (ends f) es x rest h
 ends (EntryForm.some f) es x rest h = ends_some (begins f) (Reads f) (ends f) es x rest h
+
+-- ---- the laws, for every form
+
+stops_at : {b : Bool} {A : Type 0} (f : EntryForm b A) (es : Entries) (reason : Misfit) (line : Option Line) → read_entries f es ≡ Err (reason, line)
+    → (at : Entries) × Stops f reason at es × (line ≡ line_at at)
+stops_at f es reason line h =
+    let s : StopsHere (λ r at. Stops f r at es) (reason, line) = subst (Sound (Reads f es) (λ r at. Stops f r at es)) h (sound f es) in
+    (s.0, s.1, sym s.2)
+
+pub is_exact : {b : Bool} {A : Type 0} (f : EntryForm b A) → IsExact f
+is_exact f = record {
+  reads = λ es x rest h. subst (Sound (Reads f es) (λ r at. Stops f r at es)) h (sound f es);
+  is_read = reads f;
+  stops = stops_at f;
+  is_stopped = λ es at reason d. finds f reason at es d;
+  rest_is_last = ends f;
+}
+
+pub is_definite : {b : Bool} {A : Type 0} (f : EntryForm b A) → IsDefinite f
+is_definite f = record {
+  one_reading = λ es rest more first second p q. one_tree f es first second rest more p q;
+  one_stop = λ es at place first second p q. one_stop f es first second at place p q;
+  never_both = λ es rest at read reason p. never_both f es read rest reason at p;
+}

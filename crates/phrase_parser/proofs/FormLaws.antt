@@ -75,7 +75,6 @@ takes (Form.up_to p) w x rest h = takes_up_to p w rest h
 takes (Form.both {b = b} {c = c} f g) w x rest h = Takes-both b c w h.0 rest (takes f w x.0 h.0 h.1) (takes g h.0 x.1 rest h.2)
 takes (Form.after {b = b} {c = c} f g) w y rest h = Takes-both b c w h.1 rest (takes f w h.0 h.1 h.2) (takes g h.1 y rest h.3)
 takes (Form.made h f) w y rest s = takes f w s.0 rest s.1
-takes (Form.fits h f) w y rest s = takes f w s.0 rest s.1
 takes (Form.either {b = b} {c = c} f g) w x rest (inl s) = Takes-first b c w rest (takes f w x rest s.1)
 takes (Form.either {b = b} {c = c} f g) w x rest (inr s) = Takes-second b c w rest (takes g w x rest s.1)
 takes (Form.optional {b = b} f) w x rest h = takes_optional (opens f) (Spells f) (λ v y r s. Takes-some b v r (takes f v y r s)) w x rest h
@@ -150,7 +149,6 @@ looks (Form.up_to p) next h w e = h w e
 looks (Form.both f g) next h w e = looks f (starts g next) (looks g next h) w e
 looks (Form.after f g) next h w e = looks f (starts g next) (looks g next h) w e
 looks (Form.made m f) next h w e = looks f next h w e
-looks (Form.fits m f) next h w e = looks f next h w e
 looks (Form.either f g) next h w e = elim (or_true (starts f next false w) (starts g next false w) e) [ inl l ↦ looks f next h w l | inr r ↦ looks g next h w r ]
 looks (Form.optional f) next h w e = elim (or_true (next false w) (starts f (λ inside. next false) false w) e) [ inl l ↦ h w l | inr r ↦ looks f (λ inside. next false) h w r ]
 looks (Form.some f) next h w e = looks f (again (starts f) next (length w)) (looks_again (starts f) (looks f) next h (length w)) w e
@@ -169,7 +167,6 @@ reads (Form.up_to p) w x rest h = rw h refl
 reads (Form.both f g) w x rest h = rw (reads f w x.0 h.0 h.1, reads g h.0 x.1 rest h.2) refl
 reads (Form.after f g) w y rest h = rw (reads f w h.0 h.1 h.2, reads g h.1 y rest h.3) refl
 reads (Form.made h f) w y rest s = rw (reads f w s.0 rest s.1, s.2) refl
-reads (Form.fits h f) w y rest s = rw (reads f w s.0 rest s.1, s.2) refl
 reads (Form.either f g) w x rest (inl s) = rw (s.0, reads f w x rest s.1) refl
 reads (Form.either f g) w x rest (inr s) = rw (s.0, reads g w x rest s.1) refl
 reads (Form.optional f) w x rest h = reads_optional (opens f) (Spells f) (read f) (reads f) w x rest h
@@ -198,7 +195,6 @@ finds_deep (Form.both f g) w (inr d) = rw (reads f w d.0 d.1 d.2, finds_deep g d
 finds_deep (Form.after f g) w (inl d) = rw (finds_deep f w d) refl
 finds_deep (Form.after f g) w (inr d) = rw (reads f w d.0 d.1 d.2, finds_deep g d.1 d.3) refl
 finds_deep (Form.made h f) w d = rw (finds_deep f w d) refl
-finds_deep (Form.fits h f) w d = rw (finds_deep f w d) refl
 finds_deep (Form.either f g) w (inl d) = rw (d.0, finds_deep f w d.1) refl
 finds_deep (Form.either f g) w (inr d) = rw (d.0, finds_deep g w d.1) refl
 finds_deep (Form.optional f) w d = rw (d.0, finds_deep f w d.1) refl
@@ -264,14 +260,6 @@ module _ {A : Type 0} (opened : Words → Bool) (Is : Words → A → Words → 
       after _ _ _ _ (read_more opened one (length mid) mid) _ (sound_more (length mid) mid (omega arith)) (λ d. inr (x, mid, p, d)) λ xs rest q.
       (mid, p, q)
 
-sound_fits : {A B : Type 0} (h : A → Option B) (Is : A → Words → Type 0) (Deeper : Type 0) (x : A) (rest : Words) → Is x rest
-    → Sound (λ y more. (a : A) × Is a more × (h a ≡ Some y)) Deeper (read_as (h x) rest)
-sound_fits {B = B} h Is Deeper x rest p = go (h x) refl
-  where
-    go : (o : Option B) → h x ≡ o → Sound (λ y more. (a : _) × Is a more × (h a ≡ Some y)) Deeper (read_as o rest)
-    go (Some y) e = (x, p, e)
-    go None e = tt
-
 pub sound : {b : Bool} {A : Type 0} (f : Form b A) (w : Words) → Sound (Spells f w) (Deep f w) (read f w)
 sound (Form.word p) w = sound_word p w
 sound (Form.mark p) w = sound_word p w
@@ -289,9 +277,6 @@ sound (Form.after f g) w =
 sound (Form.made h f) w =
     after _ _ _ _ (read f w) _ (sound f w) (λ d. d) λ x rest p.
     (x, p, refl)
-sound (Form.fits h f) w =
-    after _ _ _ _ (read f w) _ (sound f w) (λ d. d) λ x rest p.
-    sound_fits h (Spells f w) (Deep f w) x rest p
 sound (Form.either f g) w =
     by_test _ _ (opens f w) _ _
     (λ e. convert _ _ _ _ (read f w) (sound f w) (λ d. inl (e, d)) (λ x rest p. inl (e, p)))

@@ -3,3 +3,4 @@ pub mod EntryReading
 pub mod Repeats
 pub mod Choices
 pub mod Faults
+pub mod Laws

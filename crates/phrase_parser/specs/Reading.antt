@@ -69,7 +69,6 @@ read (Form.up_to p) w = Ok (tt, from_first p w)
 read (Form.both f g) w = read f w >>= λ x. read g x.1 >>= λ y. Ok ((x.0, y.0), y.1)
 read (Form.after f g) w = read f w >>= λ x. read g x.1
 read (Form.made h f) w = read f w >>= λ x. Ok (h x.0, x.1)
-read (Form.fits h f) w = read f w >>= λ x. read_as (h x.0) x.1
 read (Form.either f g) w = if opens f w then read f w else read g w
 read (Form.optional f) w = read_optional (opens f w) (read f w) w
 read (Form.some f) w = read_some (opens f) (read f) w

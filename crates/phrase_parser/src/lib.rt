@@ -3,6 +3,7 @@
 
 mod entries;
 mod faults;
+mod laws;
 mod listed;
 mod operands;
 mod phrases;
@@ -11,6 +12,7 @@ mod words;
 
 pub use entries::{entry, first_opens, whole_entry};
 pub use faults::{EntryFault, PhraseFault, found, no_fit};
+pub use laws::{entries_are_definite, reading_is_exact};
 pub use listed::{joined, many, many_entries, some, some_entries};
 pub use operands::{
     constant, figurative_of, opens_constant, opens_operand, opens_qualifier, operand, qualifier,

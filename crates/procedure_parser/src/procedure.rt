@@ -15,8 +15,8 @@ use cob_base::{
     Procedure, SeenEntry, Sentence, Token, see_entries,
 };
 use phrase_parser::{
-    EntryFault, PhraseFault, entry, expect, fault_of, from_stop, full_stop, many_entries, name,
-    no_fit, opens_name, past, same_key,
+    EntryFault, PhraseFault, entries_are_definite, entry, expect, fault_of, from_stop, full_stop,
+    many_entries, name, no_fit, opens_name, past, reading_is_exact, same_key,
 };
 use std::alloc::{AllocError, Global};
 
@@ -306,6 +306,7 @@ fn procedure(alloc: Global, entries: &[SeenEntry]) -> Result<(Procedure, &[SeenE
 pub fn parse_procedure(alloc: Global, entries: &[Entry]) -> Result<Procedure, ParseFault>
     ensures { Answers entries.now result }
 {
+    reading_is_exact();
     let seen = see_entries(alloc, entries)?;
     match procedure(alloc, seen.as_slice()) {
         Ok((found, rest)) => match rest {
@@ -322,4 +323,6 @@ pub fn parse_procedure(alloc: Global, entries: &[Entry]) -> Result<Procedure, Pa
 pub fn programs_are_definite()
     ensures procedures { IsDefinite grammar.procedure }
     ensures programs { IsDefinite grammar.program }
-{}
+{
+    entries_are_definite();
+}

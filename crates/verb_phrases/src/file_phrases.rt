@@ -348,7 +348,7 @@ pub fn optional_place(
 
 /// Whether a reserved word is RECORD or RECORDS.
 fn is_record_word(keyword: Keyword) -> bool
-    ensures { result ≡ is_there (grammar.record_or_records keyword) }
+    ensures { result ≡ is_there (shared.record_or_records keyword) }
 {
     match keyword {
         Keyword::Record => true,
