@@ -1,4 +1,4 @@
-ghost use Rattle.std.specs.Prelude.{◌≡◌, ◌≤◌, ◌⊎◌, ◌++◌, ◌∷◌, [], if◌then◌else◌, ℕ, List, length, map, min, Some, IfOk, OnOk};
+ghost use Rattle.std.specs.Prelude.{◌≡◌, ◌≤◌, ◌⊎◌, ◌++◌, ◌∷◌, [], if◌then◌else◌, ℕ, List, length, map, min, Some, IfOk, IfSome, OnOk};
 ghost use Rattle.std.specs.Option.{option_copied};
 ghost use Rattle.std.specs.Str.{bytes_eq};
 ghost use Rattle.data_names.specs.Names.{in_small, pair_key, is_under, numbers_under, ends_with, with_number, AreNames};
@@ -135,6 +135,7 @@ impl Names {
 pub fn fewest<'a>(some: &'a [usize], others: Option<&'a [usize]>) -> &'a [usize]
     ensures one { (result.now ≡ some.entry.now) ⊎ (option_copied others.entry ≡ Some result.now) }
     ensures least { length result.now ≤ length some.entry.now }
+    ensures of_both { IfSome (option_copied others.entry) (λ other. length result.now ≤ length other) }
 {
     match others {
         Some(others) => shorter(some, others),
