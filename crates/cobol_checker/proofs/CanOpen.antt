@@ -11,17 +11,16 @@ use Rattle.picture_rule.specs.Picture.{PictureValue, plain}
 use Rattle.picture_rule.specs.declared.kind.PictureKind.TheVariants.{Group}
 use Rattle.cob_value.specs.Figures.{is_number}
 use Rattle.data_layout.specs.declared.row.Row.{Row}
-use Rattle.data_layout.specs.declared.row.Described.{Described}
 use Rattle.data_layout.specs.declared.layout.Item.{Item}
 use Rattle.data_layout.specs.declared.layout.Layout.{Layout}
 use Rattle.data_layout.specs.Rows.{sections}
 use Rattle.data_layout.specs.Storage.{goes_on, members}
 use Rattle.data_layout.specs.Faults.{has_size, is_unreadable}
-use Rattle.data_layout.specs.Layout.{IsItem, AreItems, IsItemPicture, size_of}
+use Rattle.data_layout.specs.Layout.{AreItems, IsItemPicture, size_of}
 use Rattle.data_layout.specs.Outcome.{IsLayoutOf}
 use Rattle.data_names.specs.Clauses.{value_clause}
-use Rattle.data_names.specs.Items.{DataItem, AreDataItems}
-use Rattle.data_names.specs.Spots.{Spot, spots, spots_after, spot_of, is_sized, is_in_value, has_value, picture_of_item}
+use Rattle.data_names.specs.Items.{DataItem}
+use Rattle.data_names.specs.Spots.{Spot, spots_after, spot_of, is_sized, is_in_value, has_value, picture_of_item}
 use Rattle.front_rules.specs.Kinds.{fits, read_back, is_unfit, has_bad_value, is_item_of_wrong_kind}
 use Rattle.front_rules.specs.Levels.{has_bad_level}
 use Rattle.entry_clauses.specs.Clauses.{has_leading_sign}

@@ -23,7 +23,7 @@ use Rattle.name_rules.specs.Mentions.{Mention, mention, mentions, references, su
 use Rattle.front_rules.specs.Faults.{front_faults}
 use Rattle.name_rules.specs.UnknownNames.{is_described}
 use Rattle.front_rules.specs.Limits.{is_key_past_limit, has_key_past_limit}
-use Rattle.key_rules.specs.KeyPlaces.{description_of, same_number, is_no_key, are_sized_under, placed_key, same_place, has_twins, has_no_key, are_at_one_place, has_bad_clauses, has_bad_keys}
+use Rattle.key_rules.specs.KeyPlaces.{description_of, is_no_key, placed_key, same_place, has_twins, has_no_key, are_at_one_place, has_bad_clauses, has_bad_keys}
 use Rattle.entry_clauses.specs.ScreenItems.{ScreenItem}
 use Rattle.cobol_checker.specs.Judged.{IsFaultless}
 use Rattle.cobol_checker.specs.Shapes.{AreKeyPlaces, record_of}
@@ -97,16 +97,6 @@ whole front items screens h n = record {
   sized = all_sized items n.unreadable;
   total = keeps_limit [] (map (λ (item : DataItem). item.row) items) (omega arith) refl (laid_rows [] items n.past n.outside n.wrong n.unreadable);
 }
-
-sized_under : (items : List DataItem) (description : Option ℕ) → list_all (λ (item : DataItem). has_size item.row) items ≡ true → are_sized_under items description ≡ true
-sized_under [] description e = refl
-sized_under (x ∷ items) description e =
-    let parts = first_all (has_size x.row) (list_all (λ (item : DataItem). has_size item.row) items) e in
-    rw (or_true (not (same_number description x.source.file)) (has_size x.row) parts.0, sized_under items description parts.1) refl
-  where
-    first_all : (a b : Bool) → (a && b) ≡ true → (a ≡ true) × (b ≡ true)
-    first_all true b e = (refl, e)
-    first_all false b e = cc e
 
 -- ---- the description of a file
 
@@ -239,10 +229,6 @@ some_of : {A : Type 0} (o : Option A) → is_none o ≡ false → (x : A) × (o 
 some_of None e = cc e
 some_of (Some x) e = (x, refl)
 
-second : (a b : Bool) → (a && b) ≡ false → a ≡ true → b ≡ false
-second true b h e = h
-second false b h e = cc e
-
 file_sound : (front : Front) (items : List DataItem) (file : FileEntry) → Whole items → not (is_described front file.name) ≡ false
     → list_any (λ (key : Reference). count_of_matches items key == 0) (keys_of file) ≡ false → list_any (λ (key : Reference). nat_lt 1 (count_of_matches items key)) (keys_of file) ≡ false
     → has_bad_keys front items file ≡ false → has_key_past_limit items file ≡ false → IsSoundFile front items file
@@ -250,7 +236,7 @@ file_sound front items file w u none several bad past =
     let n = described front file.name (not_false (is_described front file.name) u) in
     let number = n.0 in
     let description = description_of front file.name in
-    let bad2 = neither (has_bad_clauses file.clauses || has_no_key items description file) (are_sized_under items description && are_at_one_place items description file) bad in
+    let bad2 = neither (has_bad_clauses file.clauses || has_no_key items description file) (are_at_one_place items description file) bad in
     let bad1 = neither (has_bad_clauses file.clauses) (has_no_key items description file) bad2.0 in
     let clauses2 = neither (is_none (record_key file.clauses) || nat_lt 3 (length (alternates file.clauses))) (nat_lt 1 (count_by (λ (one : Alternate). one.duplicates) (alternates file.clauses))) bad1.0 in
     let clauses1 = neither (is_none (record_key file.clauses)) (nat_lt 3 (length (alternates file.clauses))) clauses2.0 in
@@ -258,7 +244,7 @@ file_sound front items file w u none several bad past =
     let others : List Reference = map (λ (one : Alternate). one.key) (alternates file.clauses) in
     let keys_are : keys_of file ≡ prime.0 ∷ others = ap (λ (key : Option Reference). option_to_list key ++ others) prime.1 in
     let no_key : has_no_key items (Some number) file ≡ false = ap (λ (one : Option ℕ). has_no_key items one file) (sym n.1) ∙ bad1.1 in
-    let twins : are_at_one_place items (Some number) file ≡ false = ap (λ (one : Option ℕ). are_at_one_place items one file) (sym n.1) ∙ second (are_sized_under items description) (are_at_one_place items description file) bad2.1 (sized_under items description w.sized) in
+    let twins : are_at_one_place items (Some number) file ≡ false = ap (λ (one : Option ℕ). are_at_one_place items one file) (sym n.1) ∙ bad2.1 in
     let all = all_good front items file number (keys_of file) w n.1 none several no_key past in
     let good = subst (AllGood front items file number) keys_are all in
     let apart = later_twins same_place (λ (key : Reference). placed_key (Some number) (found items key)) prime.0 others _ refl (subst (λ (keys : List Reference). has_twins same_place (filter_map (λ (key : Reference). placed_key (Some number) (found items key)) keys) ≡ false) keys_are twins) in

@@ -18,7 +18,7 @@ use Rattle.data_names.specs.References.{found, only_one, matching, is_match, cou
 use Rattle.data_names.proofs.Cuts.{spot_cut}
 use Rattle.front_rules.specs.Limits.{is_item_past_limit, is_key_past_limit}
 use Rattle.entry_clauses.specs.Spelled.{is_too_wide}
-use Rattle.key_rules.specs.KeyPlaces.{description_of, same_number, is_of_record, is_signed_item, is_no_key, placed_key}
+use Rattle.key_rules.specs.KeyPlaces.{description_of, same_number, is_of_record, is_signed_item, is_no_key, is_unsized_under, placed_key}
 use Rattle.key_rules.specs.Descriptions.{is_record_under}
 use Rattle.cobol_checker.specs.Shapes.{record_of}
 use Rattle.cobol_checker.specs.Sound.{IsPlaceIn}
@@ -78,6 +78,18 @@ sized_from ahead g rest e =
     let later = (both (list_all (λ (item : DataItem). has_size item.row) ahead) _ (sym (list_all-append (λ (item : DataItem). has_size item.row) ahead (g ∷ rest)) ∙ e)).1 in
     let parts = both (has_size g.row) _ later in
     rw (parts.0, while_all (goes_on g.row) has_size (map (λ (item : DataItem). item.row) rest) (sized_map rest parts.1)) refl
+
+no_more_unsized : (a b c : Bool) → b ≡ true → c ≡ false → ((a && not b) || c) ≡ false
+no_more_unsized true true c e f = f
+no_more_unsized false b c e f = f
+no_more_unsized true false c e f = cc e
+
+-- where every size is known, none under a description is unknown
+none_unsized : (description : Option ℕ) (items : List DataItem) → list_all (λ (item : DataItem). has_size item.row) items ≡ true → list_any (is_unsized_under description) items ≡ false
+none_unsized description [] e = refl
+none_unsized description (x ∷ items) e =
+    let parts = both (has_size x.row) _ e in
+    no_more_unsized (same_number description x.source.file) (has_size x.row) (list_any (is_unsized_under description) items) parts.0 (none_unsized description items parts.1)
 
 few_bytes : (a b c : Bool) (n : ℕ) → a ≡ true → b ≡ true → c ≡ true → (a && b && c && nat_lt 512 n) ≡ false → n ≤ 512
 few_bytes a b c n e f g h = no_more 512 n (rw (e, f, g) at h)
@@ -220,7 +232,10 @@ key_good front items file number key w d some few lies past =
     let file_is = number_known number spot.item.source.file parts.0 in
     let owner = either_owner front items file spot number (is_record spot.item) refl w cut parts.1 file_is d in
     let sized = subst (λ (all : List DataItem). list_all (λ (item : DataItem). has_size item.row) all ≡ true) cut w.sized in
-    let bytes : bytes_of spot ≤ 64 = few_of_key (is_sized spot) (bytes_of spot == 0) (bytes_of spot) (sized_from spot.before spot.item spot.rest sized) past' in
+    let known : is_sized spot ≡ true = sized_from spot.before spot.item spot.rest sized in
+    let bytes : bytes_of spot ≤ 64 = few_of_key (is_sized spot) (bytes_of spot == 0) (bytes_of spot) known past' in
+    let ahead = both (list_all (λ (item : DataItem). has_size item.row) spot.before) _ (sym (list_all-append (λ (item : DataItem). has_size item.row) spot.before (spot.item ∷ spot.rest)) ∙ sized) in
+    let none : list_any (is_unsized_under (Some number)) spot.before ≡ false = none_unsized (Some number) spot.before ahead.0 in
     let small : storage (rows_before spot) ≤ 1000000 = before_total items spot.before (spot.item ∷ spot.rest) w cut in
     record {
       spot = spot;
@@ -230,5 +245,5 @@ key_good front items file number key w d some few lies past =
       inside = record { low = owner.low; high = owner.high; small = small; few = bytes };
       few = owner.few;
       begins = owner.begins;
-      placed = rw (of_record, tables.1) refl;
+      placed = rw (of_record, tables.1, known, none) refl;
     }

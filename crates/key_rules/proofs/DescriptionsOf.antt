@@ -1,9 +1,8 @@
 -- The first of those that pass, and what is known of descriptions with one more item.
-use Rattle.std.proofs.Common.{◌≡◌, ◌∙◌, refl, sym, ap, subst, arith, ℕ, zero, suc, ◌+◌, ◌<◌, ◌≤◌, ◌⊎◌, inl, inr, ◌==◌, ◌&&◌, Bool, true, false, List, [], ◌∷◌, ◌++◌, length, take, get_or, Option, Some, None}
+use Rattle.std.proofs.Common.{◌≡◌, ◌∙◌, refl, sym, ap, subst, arith, ℕ, zero, suc, ◌+◌, ◌<◌, ◌≤◌, ◌⊎◌, inl, inr, ◌==◌, not, Bool, true, false, List, [], ◌∷◌, ◌++◌, length, take, get_or, Option, Some, None}
 use Rattle.std.specs.Prelude.{if◌then◌else◌, nat_lt, position, slice_get, slice_set}
 use Rattle.std.specs.List.{position_from, position_or_len}
 use Rattle.std.proofs.lemmas.List.{take_more, length-take-le}
-use Rattle.std.proofs.lemmas.List.Folds.{list_all-append}
 use Rattle.std.proofs.lemmas.Bool.{eq-eqb}
 use Rattle.std.proofs.lemmas.Option.{slice_get_within}
 use Rattle.std.proofs.Math.Dec.{eqb-suc-suc, eqb-suc-zero, eqb-zero-suc}
@@ -20,7 +19,7 @@ use Rattle.data_names.specs.Clauses.{or_next}
 use Rattle.data_names.specs.Items.{DataItem}
 use Rattle.data_names.specs.Spots.{is_record}
 use Rattle.key_rules.specs.declared.descriptions.Description.{Description}
-use Rattle.key_rules.specs.KeyPlaces.{same_number, are_sized_under, description_of}
+use Rattle.key_rules.specs.KeyPlaces.{same_number, is_unsized_under, description_of}
 use Rattle.key_rules.specs.Descriptions.{IsDescription, IsDescriptionOf, AreKnown, is_record_under}
 
 number_or_none : (b : Bool) (n m : ℕ) → n ≡ m → (if b then Some n else None) ≡ (if b then Some m else None)
@@ -57,26 +56,22 @@ none_next (Some n) = refl
 same_self : (n : ℕ) → (n == n) ≡ true
 same_self n = eq-eqb n n refl
 
-both_true : (b : Bool) → (b && true) ≡ b
-both_true true = refl
-both_true false = refl
-
 -- an item that stands elsewhere
 pub others : (before : List DataItem) (item : DataItem) (number : ℕ) (one : Description) → same_number (Some number) item.source.file ≡ false → IsDescription before number one → IsDescription (before ++ item ∷ []) number one
 others before item number one e h = record {
   number = h.number;
   record_is = h.record_is ∙ sym (position-push (is_record_under (Some number)) before item ∙ rw e (none_next (position (is_record_under (Some number)) before)));
-  sized = h.sized ∙ sym (list_all-append _ before (item ∷ []) ∙ rw e (both_true (are_sized_under before (Some number))));
+  unsized_is = h.unsized_is ∙ sym (position-push (is_unsized_under (Some number)) before item ∙ rw e (none_next (position (is_unsized_under (Some number)) before)));
 }
 
 -- an item under the description
 pub under : (before : List DataItem) (item : DataItem) (number : ℕ) (old new : Description) → item.source.file ≡ Some number → IsDescription before number old → new.number ≡ old.number
-    → new.record ≡ or_next old.record (if is_record item then Some (length before) else None) → new.sized ≡ (old.sized && has_size item.row) → IsDescription (before ++ item ∷ []) number new
+    → new.record ≡ or_next old.record (if is_record item then Some (length before) else None) → new.unsized_at ≡ or_next old.unsized_at (if not (has_size item.row) then Some (length before) else None) → IsDescription (before ++ item ∷ []) number new
 under before item number old new e h n r s =
     let here : same_number (Some number) item.source.file ≡ true = rw e (same_self number) in record {
       number = n ∙ h.number;
       record_is = r ∙ ap (λ first. or_next first (if is_record item then Some (length before) else None)) h.record_is ∙ sym (position-push (is_record_under (Some number)) before item ∙ rw here refl);
-      sized = s ∙ ap (λ b. b && has_size item.row) h.sized ∙ sym (list_all-append _ before (item ∷ []) ∙ rw here (ap (λ b. are_sized_under before (Some number) && b) (both_true (has_size item.row))));
+      unsized_is = s ∙ ap (λ first. or_next first (if not (has_size item.row) then Some (length before) else None)) h.unsized_is ∙ sym (position-push (is_unsized_under (Some number)) before item ∙ rw here refl);
     }
 
 -- what stands at a place of a list in which one place was changed

@@ -1,2 +1,3 @@
 pub mod DescriptionsOf
+pub mod SizedBefore
 pub mod OnePlace

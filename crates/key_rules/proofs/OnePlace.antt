@@ -1,6 +1,6 @@
 -- Two items without OCCURS lie at one place exactly where as many items with bytes stand before them and they have as many.
-use Rattle.std.proofs.Common.{◌≡◌, ◌∙◌, refl, sym, ap, subst, arith, ℕ, ◌+◌, ◌*◌, ◌≤◌, Bool, true, false, not, ◌&&◌, ◌||◌, cond, List, [], ◌∷◌, ◌++◌, append_assoc, map, drop, Option, Some, None}
-use Rattle.std.specs.Prelude.{◌==◌, if◌then◌else◌, is_some, option_map, take_while}
+use Rattle.std.proofs.Common.{◌≡◌, ◌∙◌, refl, sym, ap, subst, arith, ℕ, ◌+◌, ◌*◌, ◌≤◌, Bool, true, false, not, ◌&&◌, ◌||◌, cond, List, [], ◌∷◌, ◌++◌, append_assoc, length, map, drop, Option, Some, None}
+use Rattle.std.specs.Prelude.{◌==◌, if◌then◌else◌, is_some, option_map, take_while, position}
 use Rattle.std.specs.List.{list_any, list_all, filter_map, prefix_len}
 use Rattle.std.proofs.Math.Nat.{mul-le-mul_left}
 use Rattle.std.proofs.lemmas.Bool.{eqb-true, eqb-false, eq-eqb}
@@ -19,8 +19,9 @@ use Rattle.data_names.specs.Spots as n
 use Rattle.data_names.specs.Spots.{Spot, rows_before, rows_after, bytes_of, is_table}
 use Rattle.data_names.specs.References.{found, only_one, matching, is_match}
 use Rattle.data_names.proofs.Cuts.{spot_cut, repeated-is}
-use Rattle.key_rules.specs.KeyPlaces.{is_of_record, placed_key, same_place, has_twins}
-use Rattle.key_rules.specs.SeenKeys.{span_of, span_of_key, same_span}
+use Rattle.key_rules.specs.KeyPlaces.{is_unsized_under, is_of_record, has_place, placed_key, same_place, has_twins}
+use Rattle.key_rules.specs.SeenKeys.{span_of, is_sized_before, seen_key, span_of_key, same_span}
+use Rattle.key_rules.proofs.SizedBefore.{sized_before}
 
 -- ---- tests
 
@@ -275,7 +276,7 @@ spans_are : {A : Type 0} (f : A → Option (Spot DataItem)) (keys : List A) → 
 spans_are f [] = refl
 spans_are f (key ∷ keys) = spans_map f keys (f key) key refl (spans_are f keys)
 
--- ---- an item that was found stands among all
+-- ---- an item that was found
 
 only_of : (xs : List (Spot DataItem)) (spot : Spot DataItem) → only_one xs ≡ Some spot → xs ≡ spot ∷ []
 only_of [] spot e = cc e
@@ -290,11 +291,18 @@ alone_if : (b : Bool) (items : List DataItem) (one spot : Spot DataItem) → (b 
 alone_if true items one spot h k = let same : one ≡ spot = cc k in subst (IsAlone items) same (h refl)
 alone_if false items one spot h k = cc k
 
+-- an item that is found stands among all
+cut_of : (items : List DataItem) (key : Reference) (one : Spot DataItem) → found items key ≡ Some one → items ≡ one.before ++ one.item ∷ one.rest
+cut_of items key one e = spot_cut (is_match key.name key.qualifiers) [] items one (only_of (matching items key.name key.qualifiers) one e)
+
+no_table : (description : Option ℕ) (one : Spot DataItem) → has_place description one ≡ true → is_table one ≡ false
+no_table description one t = not_true (is_table one) (both (not (is_table one)) _ (both _ _ t).0).0
+
 alone_of : (items : List DataItem) (description : Option ℕ) (key : Reference) (o : Option (Spot DataItem)) (spot : Spot DataItem) → found items key ≡ o → placed_key description o ≡ Some spot → IsAlone items spot
 alone_of items description key None spot e h = cc h
 alone_of items description key (Some one) spot e h =
-    alone_if (is_of_record description one && not (is_table one)) items one spot
-    (λ t. record { cut = spot_cut (is_match key.name key.qualifiers) [] items one (only_of (matching items key.name key.qualifiers) one e); alone = not_true (is_table one) (both (is_of_record description one) _ t).1 }) h
+    alone_if (is_of_record description one && has_place description one) items one spot
+    (λ t. record { cut = cut_of items key one e; alone = no_table description one (both (is_of_record description one) _ t).1 }) h
 
 all_alone_step : (items : List DataItem) (o : Option (Spot DataItem)) (f : Reference → Option (Spot DataItem)) (key : Reference) (keys : List Reference) → f key ≡ o → ((spot : Spot DataItem) → o ≡ Some spot → IsAlone items spot)
     → AllAlone items (filter_map f keys) → AllAlone items (filter_map f (key ∷ keys))
@@ -307,8 +315,23 @@ all_alone items description (key ∷ keys) =
     all_alone_step items (placed_key description (found items key)) (λ (one : Reference). placed_key description (found items one)) key keys refl
     (λ spot e. alone_of items description key (found items key) spot refl e) (all_alone items description keys)
 
+-- ---- the places that the code looks at are those of the definition
+
+seen_is : (items : List DataItem) (description unsized_at : Option ℕ) (key : Reference) (o : Option (Spot DataItem)) → unsized_at ≡ position (is_unsized_under description) items → found items key ≡ o
+    → seen_key description unsized_at o ≡ placed_key description o
+seen_is items description unsized_at key None u e = refl
+seen_is items description unsized_at key (Some one) u e =
+    let sized = ap (λ (first : Option ℕ). is_sized_before first (length one.before)) u ∙ sized_before (is_unsized_under description) items one.before (one.item ∷ one.rest) (cut_of items key one e) in
+    ap (λ (b : Bool). if is_of_record description one && ((not (is_table one) && n.is_sized one) && b) then Some one else None) sized
+
+same_kept : {A B : Type 0} (f g : A → Option B) → ((x : A) → f x ≡ g x) → (xs : List A) → filter_map f xs ≡ filter_map g xs
+same_kept f g h [] = refl
+same_kept f g h (x ∷ xs) = rw (h x, same_kept f g h xs) refl
+
 -- two keys lie at one place exactly where the code's places are the same
-pub keys_alike : (items : List DataItem) (description : Option ℕ) (keys : List Reference)
-    → has_twins same_span (filter_map (λ (key : Reference). span_of_key description (found items key)) keys) ≡ has_twins same_place (filter_map (λ (key : Reference). placed_key description (found items key)) keys)
-keys_alike items description keys =
-    ap (has_twins same_span) (spans_are (λ (key : Reference). placed_key description (found items key)) keys) ∙ twins_alike items _ (all_alone items description keys)
+pub keys_alike : (items : List DataItem) (description unsized_at : Option ℕ) (keys : List Reference) → unsized_at ≡ position (is_unsized_under description) items
+    → has_twins same_span (filter_map (λ (key : Reference). span_of_key description unsized_at (found items key)) keys) ≡ has_twins same_place (filter_map (λ (key : Reference). placed_key description (found items key)) keys)
+keys_alike items description unsized_at keys u =
+    ap (has_twins same_span) (spans_are (λ (key : Reference). seen_key description unsized_at (found items key)) keys
+    ∙ ap (map span_of) (same_kept (λ (key : Reference). seen_key description unsized_at (found items key)) (λ (key : Reference). placed_key description (found items key)) (λ key. seen_is items description unsized_at key (found items key) u refl) keys))
+    ∙ twins_alike items _ (all_alone items description keys)

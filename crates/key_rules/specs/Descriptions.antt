@@ -11,7 +11,7 @@ use Rattle.data_names.specs.Names.{in_small}
 use Rattle.data_names.specs.Parts.{descriptions}
 use Rattle.data_names.specs.Items.{DataItem}
 use Rattle.data_names.specs.Spots.{is_record}
-use Rattle.key_rules.specs.KeyPlaces.{description_of, same_number, are_sized_under}
+use Rattle.key_rules.specs.KeyPlaces.{description_of, same_number, is_unsized_under}
 use Rattle.key_rules.specs.declared.descriptions.Description.{Description}
 use Rattle.key_rules.specs.declared.descriptions.Descriptions.{Descriptions}
 
@@ -19,11 +19,11 @@ use Rattle.key_rules.specs.declared.descriptions.Descriptions.{Descriptions}
 abbrev pub is_record_under : Option ℕ → DataItem → Bool
 is_record_under description item = same_number description item.source.file && is_record item
 
--- what is known of the description of this number: its record among the items, and whether all sizes under it are known
+-- what is known of the description of this number: its record among the items, and the first item under it whose size is not known
 pub record IsDescription (items : List DataItem) (at_number : ℕ) (known : Description) : Type 0 where
   pub number : known.number ≡ at_number
   pub record_is : known.record ≡ position (is_record_under (Some at_number)) items
-  pub sized : known.sized ≡ are_sized_under items (Some at_number)
+  pub unsized_is : known.unsized_at ≡ position (is_unsized_under (Some at_number)) items
 
 -- each by its number
 abbrev pub AreKnown : List DataItem → List Description → Type 0

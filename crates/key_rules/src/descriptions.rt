@@ -1,4 +1,4 @@
-ghost use Rattle.std.specs.Prelude.{◌≡◌, ◌&&◌, ◌++◌, ◌∷◌, [], ℕ, List, length, map, if◌then◌else◌, Some, None, IfOk, OnOk, slice_get};
+ghost use Rattle.std.specs.Prelude.{◌≡◌, not, ◌++◌, ◌∷◌, [], ℕ, List, length, map, if◌then◌else◌, Some, None, IfOk, OnOk, slice_get};
 ghost use Rattle.cob_base.specs.declared.divisions.Front.{Front};
 ghost use Rattle.data_names.specs.Items.{DataItem};
 ghost use Rattle.data_names.specs.Seen.{seen_item};
@@ -22,8 +22,8 @@ pub struct Description {
     pub number: usize,
     /// The number of its record among the items; None where its first item is not of level 01.
     pub record: Option<usize>,
-    /// Whether every size under it is known.
-    pub sized: bool,
+    /// The number of the first item under it whose size is not known; None where every size is.
+    pub unsized_at: Option<usize>,
 }
 
 /// The descriptions of a program's files, and the number of the first of each name.
@@ -121,7 +121,7 @@ fn unseen(alloc: Global, count: usize) -> Result<Vec<Description>, NoMemory>
         known.push(Description {
             number,
             record: None,
-            sized: true,
+            unsized_at: None,
         })?;
     }
     Ok(known)
@@ -146,14 +146,14 @@ fn with_item(known: Description, at: usize, item: &KnownItem) -> Description
     Description {
         number: known.number,
         record: first_of(known.record, record_at(at, item)),
-        sized: stays_sized(known.sized, &item.row),
+        unsized_at: first_of(known.unsized_at, unsized_at(at, &item.row)),
     }
 }
 
-fn stays_sized(sized: bool, row: &Row) -> bool
-    ensures { result ≡ (sized && has_size row.now) }
+fn unsized_at(at: usize, row: &Row) -> Option<usize>
+    ensures { result ≡ (if not (has_size row.now) then Some at else None) }
 {
-    sized && is_sized(row)
+    if is_sized(row) { None } else { Some(at) }
 }
 
 fn first_of(first: Option<usize>, next: Option<usize>) -> Option<usize>

@@ -1,21 +1,22 @@
-ghost use Rattle.std.specs.Prelude.{◌≡◌, ◌++◌, ◌<◌, ◌||◌, ◌&&◌, nat_lt, ℕ, Bool, List, length, map, filter, count_by, Some, None, option_to_list, IfOk, OnOk, slice_get};
+ghost use Rattle.std.specs.Prelude.{◌≡◌, not, ◌++◌, ◌<◌, ◌||◌, ◌&&◌, nat_lt, position, ℕ, Bool, List, length, map, filter, count_by, Some, None, option_to_list, IfOk, OnOk, slice_get};
 ghost use Rattle.std.specs.List.{list_any, filter_map};
 ghost use Rattle.cob_base.specs.declared.divisions.Front.{Front};
 ghost use Rattle.data_names.specs.Items.{DataItem};
 ghost use Rattle.data_names.specs.Seen.{seen_item};
-ghost use Rattle.data_names.specs.Spots.{Spot, spots};
+ghost use Rattle.data_names.specs.Facts.{IsFacts};
+ghost use Rattle.data_names.specs.Spots.{Spot, spots, is_table, is_sized};
 ghost use Rattle.data_names.specs.References.{found};
 ghost use Rattle.data_names.specs.Table.{IsTable, items_of};
 ghost use Rattle.entry_clauses.specs.Clauses.{record_key, alternates};
 ghost use Rattle.name_rules.specs.Mentions.{keys_of};
 ghost use Rattle.key_rules.specs.Descriptions.{AreDescriptions, IsDescriptionOf};
-ghost use Rattle.key_rules.specs.KeyPlaces.{same_number, is_of_record, is_signed_item, is_no_key, are_sized_under, placed_key, same_place, has_twins, has_bad_clauses, has_no_key, are_at_one_place, description_of, has_bad_keys, bad_key_places};
-ghost use Rattle.key_rules.specs.SeenKeys.{span_of_key, same_span};
+ghost use Rattle.key_rules.specs.KeyPlaces.{same_number, is_of_record, is_signed_item, is_no_key, is_unsized_under, placed_key, same_place, has_twins, has_bad_clauses, has_no_key, are_at_one_place, description_of, has_bad_keys, bad_key_places};
+ghost use Rattle.key_rules.specs.SeenKeys.{is_sized_before, seen_place, span_of_key, same_span};
 ghost use Rattle.name_rules.specs.Faults.{faults_at};
 
 use crate::descriptions::{Description, Descriptions};
 use cob_base::{FileClause, FileEntry, Front, NoMemory, Reference};
-use data_names::{KnownItem, Table, files};
+use data_names::{Facts, KnownItem, Table, files};
 use entry_clauses::file_clauses;
 use name_rules::Faults;
 use std::alloc::Global;
@@ -130,14 +131,45 @@ fn has_no_key(
     Ok(false)
 }
 
-/// Where the item of this number lies, where it is one of the record without OCCURS.
-fn span_at(table: &Table, description: Option<usize>, at: usize) -> Option<Span>
+/// Whether the size of each item before the one of this number is known, where the first of unknown size has the other number.
+fn is_sized_before(unsized_at: Option<usize>, at: usize) -> bool
+    ensures { result ≡ is_sized_before unsized_at at }
+{
+    match unsized_at {
+        Some(first) => at <= first,
+        None => true,
+    }
+}
+
+/// Whether an item has no OCCURS in or above it, and every size in it is known.
+fn is_sized_alone(facts: &Facts) -> bool
+    ensures { (spot : Spot DataItem) → IsFacts spot facts.now → result ≡ (not (is_table spot) && is_sized spot) }
+{
+    !facts.table && facts.sized
+}
+
+/// Whether the place of the item of this number is known, where it is one of the record.
+fn has_place(table: &Table, unsized_at: Option<usize>, at: usize) -> bool
     requires table { IsTable table.now }
     requires within { at < length table.now.items.now }
-    ensures { (spot : Spot DataItem) → slice_get (spots (items_of table.now)) at ≡ Some spot → result ≡ span_of_key description (Some spot) }
+    ensures { (spot : Spot DataItem) → slice_get (spots (items_of table.now)) at ≡ Some spot → result ≡ seen_place unsized_at spot }
+{
+    is_sized_alone(table.facts_at(at)) && is_sized_before(unsized_at, at)
+}
+
+/// Where the item of this number lies, where it is one of the record and its place is known.
+fn span_at(
+    table: &Table,
+    description: Option<usize>,
+    unsized_at: Option<usize>,
+    at: usize,
+) -> Option<Span>
+    requires table { IsTable table.now }
+    requires within { at < length table.now.items.now }
+    ensures { (spot : Spot DataItem) → slice_get (spots (items_of table.now)) at ≡ Some spot → result ≡ span_of_key description unsized_at (Some spot) }
 {
     let facts = table.facts_at(at);
-    if is_of_record(table, description, at) && !facts.table {
+    if is_of_record(table, description, at) && has_place(table, unsized_at, at) {
         Some(Span {
             before: facts.with_bytes_before,
             inside: facts.with_bytes,
@@ -151,13 +183,14 @@ fn span_of_key(
     alloc: Global,
     table: &Table,
     description: Option<usize>,
+    unsized_at: Option<usize>,
     key: &Reference,
 ) -> Result<Option<Span>, NoMemory>
     requires { IsTable table.now }
-    ensures { IfOk result (λ span. span ≡ span_of_key description (found (items_of table.now) key.now)) }
+    ensures { IfOk result (λ span. span ≡ span_of_key description unsized_at (found (items_of table.now) key.now)) }
 {
     match table.found(alloc, key)? {
-        Some(at) => Ok(span_at(table, description, at)),
+        Some(at) => Ok(span_at(table, description, unsized_at, at)),
         None => Ok(None),
     }
 }
@@ -166,14 +199,15 @@ fn spans_of(
     alloc: Global,
     table: &Table,
     description: Option<usize>,
+    unsized_at: Option<usize>,
     keys: &[&Reference],
 ) -> Result<Vec<Span>, NoMemory>
     requires { IsTable table.now }
-    ensures { IfOk result (λ spans. spans.items ≡ filter_map (λ key. span_of_key description (found (items_of table.now) key)) (map (λ key. key.now) keys.now)) }
+    ensures { IfOk result (λ spans. spans.items ≡ filter_map (λ key. span_of_key description unsized_at (found (items_of table.now) key)) (map (λ key. key.now) keys.now)) }
 {
     let mut spans = Vec::new(alloc);
     for key in keys {
-        if let Some(span) = span_of_key(alloc, table, description, *key)? {
+        if let Some(span) = span_of_key(alloc, table, description, unsized_at, *key)? {
             spans.push(span)?;
         }
     }
@@ -210,12 +244,13 @@ fn are_at_one_place(
     alloc: Global,
     table: &Table,
     description: Option<usize>,
+    unsized_at: Option<usize>,
     keys: &[&Reference],
 ) -> Result<bool, NoMemory>
     requires { IsTable table.now }
-    ensures { IfOk result (λ same. same ≡ has_twins same_place (filter_map (λ key. placed_key description (found (items_of table.now) key)) (map (λ key. key.now) keys.now))) }
+    ensures { unsized_at ≡ position (is_unsized_under description) (items_of table.now) → IfOk result (λ same. same ≡ has_twins same_place (filter_map (λ key. placed_key description (found (items_of table.now) key)) (map (λ key. key.now) keys.now))) }
 {
-    let spans = spans_of(alloc, table, description, keys)?;
+    let spans = spans_of(alloc, table, description, unsized_at, keys)?;
     Ok(has_twins(spans.as_slice()))
 }
 
@@ -263,34 +298,31 @@ fn number_of(description: Option<Description>) -> Option<usize>
     }
 }
 
-fn are_sized(description: Option<Description>) -> bool
-    ensures { (front : Front) (items : List DataItem) (name : List ℕ) → IsDescriptionOf front items name description → result ≡ are_sized_under items (description_of front name) }
+fn unsized_under(description: Option<Description>) -> Option<usize>
+    ensures { (front : Front) (items : List DataItem) (name : List ℕ) → IsDescriptionOf front items name description → result ≡ position (is_unsized_under (description_of front name)) items }
 {
     match description {
-        Some(description) => description.sized,
-        None => true,
+        Some(description) => description.unsized_at,
+        None => None,
     }
 }
 
-/// Whether some key is none, or two lie at one place where the sizes under the file's description are known.
+/// Whether some key is none, or two lie at one place.
 fn are_bad(
     alloc: Global,
     table: &Table,
     description: Option<usize>,
-    sized: bool,
+    unsized_at: Option<usize>,
     file: &FileEntry,
 ) -> Result<bool, NoMemory>
     requires { IsTable table.now }
-    ensures { IfOk result (λ bad. bad ≡ (has_no_key (items_of table.now) description file.now || (sized && are_at_one_place (items_of table.now) description file.now))) }
+    ensures { unsized_at ≡ position (is_unsized_under description) (items_of table.now) → IfOk result (λ bad. bad ≡ (has_no_key (items_of table.now) description file.now || are_at_one_place (items_of table.now) description file.now)) }
 {
     let keys = keys_of(alloc, file)?;
     if has_no_key(alloc, table, description, keys.as_slice())? {
         return Ok(true);
     }
-    if !sized {
-        return Ok(false);
-    }
-    are_at_one_place(alloc, table, description, keys.as_slice())
+    are_at_one_place(alloc, table, description, unsized_at, keys.as_slice())
 }
 
 fn has_bad_keys(
@@ -310,7 +342,7 @@ fn has_bad_keys(
         alloc,
         table,
         number_of(description),
-        are_sized(description),
+        unsized_under(description),
         file,
     )
 }

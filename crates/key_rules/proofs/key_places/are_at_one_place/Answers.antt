@@ -7,6 +7,6 @@ use Rattle.key_rules.proofs.OnePlace.{keys_alike}
 use Rattle.key_rules.proofs.key_places.are_at_one_place.Goals as goal
 
 pub returns : goal.returns
-returns c =
+returns c = λ unsized.
     c.has_twins.ensures ∙ ap (has_twins same_span) (c.as_slice.ensures.value ∙ c.in_ok-spans.ensures)
-    ∙ keys_alike (items_of c.args.table.now) c.args.description (map (λ (key : Bor Reference). key.now) c.args.keys.now)
+    ∙ keys_alike (items_of c.args.table.now) c.args.description c.args.unsized_at (map (λ (key : Bor Reference). key.now) c.args.keys.now) unsized

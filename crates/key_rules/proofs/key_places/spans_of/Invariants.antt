@@ -9,5 +9,5 @@ use Rattle.key_rules.proofs.key_places.spans_of.Given as goal
 
 abbrev pub invariant-loop-key : goal.invariant-loop-key
 invariant-loop-key l =
-    l.spans.items ++ filter_map (λ key. span_of_key l.description (found (items_of l.table) key)) (map (λ (key : Bor Reference). key.now) (drop l.key-index l.keys))
-    ≡ filter_map (λ key. span_of_key l.description (found (items_of l.table) key)) (map (λ (key : Bor Reference). key.now) l.keys)
+    l.spans.items ++ filter_map (λ key. span_of_key l.description l.unsized_at (found (items_of l.table) key)) (map (λ (key : Bor Reference). key.now) (drop l.key-index l.keys))
+    ≡ filter_map (λ key. span_of_key l.description l.unsized_at (found (items_of l.table) key)) (map (λ (key : Bor Reference). key.now) l.keys)
