@@ -7,8 +7,8 @@ use Rattle.std.proofs.lemmas.Bool.Decides.{eqb_tells}
 use Rattle.std.proofs.lemmas.List.Edits.{length-swap, swapped_from_swap}
 use Rattle.std.proofs.lemmas.List.Sorted.{IsPermutation-keeps}
 use Rattle.sharing_table.specs.declared.shape.KeyPlace.{KeyPlace}
+use Rattle.sharing_table.specs.Sound.{IsBelow, AreAscending}
 use Rattle.cobol_checker.specs.Sound.{rank, AreApart}
-use Rattle.cobol_checker.specs.Shapes.{IsBelow, AreAscending}
 
 -- where what stands at k after the exchange of a and b stood before
 abbrev Source : ℕ → ℕ → ℕ → ℕ → Type 0

@@ -54,3 +54,16 @@ spot_lacks test p [] spot e n = cc e
 spot_lacks test p (x ∷ all) spot e n =
     let parts = neither (p x) (list_any p all) n in
     chosen_cut test (test x) x spot (filter test all) e (λ same. ap p (sym same) ∙ parts.0) (λ later. spot_lacks test p all spot later parts.1)
+
+fewer : (chosen test : DataItem → Bool) (b c : Bool) (x : DataItem) (xs : List DataItem) → chosen x ≡ c → list_any test (filter chosen (if b then x ∷ xs else xs)) ≡ false → list_any test (filter chosen xs) ≡ false
+fewer chosen test false c x xs e h = h
+fewer chosen test true false x xs e h = rw e at h
+fewer chosen test true true x xs e h = (neither (test x) _ (rw e at h)).1
+
+-- what no group around an item passes, this one does not
+pub group_lacks : (test : DataItem → Bool) (ahead : List DataItem) (group : DataItem) (middle : List DataItem) (item : DataItem) → list_all (λ (other : DataItem). goes_on group.row other.row) middle ≡ true
+    → goes_on group.row item.row ≡ true → list_any test (around (λ other. other.row) (ahead ++ group ∷ middle) item) ≡ false → test group ≡ false
+group_lacks test [] group middle item goes holds h = (neither (test group) _ (rw (goes, holds) at h)).0
+group_lacks test (x ∷ ahead) group middle item goes holds h =
+    group_lacks test ahead group middle item goes holds
+    (fewer (λ (other : DataItem). goes_on other.row item.row) test (list_all (λ (other : DataItem). goes_on x.row other.row) (ahead ++ group ∷ middle)) (goes_on x.row item.row) x (open_after (λ (other : DataItem). other.row) (ahead ++ group ∷ middle)) refl h)

@@ -5,7 +5,9 @@ pub mod Small
 pub mod Ascending
 pub mod RecordOf
 pub mod Sectioned
+pub mod Grouped
 pub mod SoundFiles
+pub mod SoundShapes
 pub mod RecordBytes
 pub mod Groups
 pub mod SoundKeys

@@ -1,10 +1,13 @@
 -- The bytes of a record and of what lies in it.
-use Rattle.std.proofs.Common.{◌≡◌, ◌∙◌, refl, sym, ap, arith, ℕ, ◌+◌, ◌*◌, ◌≤◌, Bool, true, false, ◌&&◌, List, [], ◌∷◌, ◌++◌, append_assoc, append-nil, add-one, take}
-use Rattle.std.specs.Prelude.{if◌then◌else◌, take_while}
+use Rattle.std.proofs.Common.{◌≡◌, ◌∙◌, refl, sym, ap, arith, ℕ, ◌+◌, ◌*◌, ◌≤◌, Bool, true, false, not, ◌&&◌, nat_lt, List, [], ◌∷◌, ◌++◌, append_assoc, append-nil, add-one, take, drop, Option, Some, None}
+use Rattle.std.specs.Prelude.{if◌then◌else◌, take_while, is_some}
 use Rattle.std.specs.List.{list_all, prefix_len}
+use Rattle.std.proofs.lemmas.Bool.Decides.{nat_tests}
+use Rattle.std.proofs.lemmas.List.{take-append-drop}
 use Rattle.std.proofs.lemmas.List.Folds.{list_all-append}
 use Rattle.data_layout.specs.declared.row.Row.{Row}
-use Rattle.data_layout.specs.Storage.{goes_on, opened, members, own_size, times, bytes_after, storage}
+use Rattle.data_layout.specs.Rows.{rank}
+use Rattle.data_layout.specs.Storage.{goes_on, opened, members, own_size, number_of_times, times, bytes_after, storage}
 use Rattle.data_layout.specs.Layout.{size_of}
 use Rattle.data_layout.proofs.Groups.{storage-append}
 use Rattle.data_layout.proofs.Places.{size_le}
@@ -78,17 +81,21 @@ section_bytes ahead g rest e =
 
 -- ---- what lies in a record
 
--- behind the row that begins a record no more bytes come than the record has
-pub within_record : (ahead : List Row) (g : Row) (middle : List Row) (k : Row) (rest : List Row) → g.starts ≡ true → list_all (goes_on g) (middle ++ k ∷ []) ≡ true
-    → storage (ahead ++ g ∷ middle) ≤ storage ahead + storage (g ∷ members g (middle ++ k ∷ rest))
-within_record ahead g middle k rest e h =
-    let front : list_all (goes_on g) middle ≡ true = (all_first (list_all (goes_on g) middle) (list_all (goes_on g) (k ∷ [])) (sym (list_all-append (goes_on g) middle (k ∷ [])) ∙ h)).0 in
-    let parts : members g (middle ++ k ∷ rest) ≡ middle ++ members g (k ∷ rest) = front_passes (goes_on g) middle (k ∷ rest) front in
-    let all : storage (g ∷ (middle ++ members g (k ∷ rest))) ≡ storage (g ∷ middle) + bytes_after (g ∷ middle) (members g (k ∷ rest)) = storage-append (g ∷ middle) (members g (k ∷ rest)) in
-    let whole : storage (g ∷ members g (middle ++ k ∷ rest)) ≡ storage (g ∷ (middle ++ members g (k ∷ rest))) = ap (λ rows. storage (g ∷ rows)) parts in
+-- behind the row that begins a record and members of it no more bytes come than the record has
+within_begun : (ahead : List Row) (g : Row) (middle : List Row) (rest : List Row) → g.starts ≡ true → list_all (goes_on g) middle ≡ true
+    → storage (ahead ++ g ∷ middle) ≤ storage ahead + storage (g ∷ members g (middle ++ rest))
+within_begun ahead g middle rest e front =
+    let parts : members g (middle ++ rest) ≡ middle ++ members g rest = front_passes (goes_on g) middle rest front in
+    let all : storage (g ∷ (middle ++ members g rest)) ≡ storage (g ∷ middle) + bytes_after (g ∷ middle) (members g rest) = storage-append (g ∷ middle) (members g rest) in
+    let whole : storage (g ∷ members g (middle ++ rest)) ≡ storage (g ∷ (middle ++ members g rest)) = ap (λ rows. storage (g ∷ rows)) parts in
     let here : storage (ahead ++ g ∷ middle) ≡ storage ahead + bytes_after ahead (g ∷ middle) = storage-append ahead (g ∷ middle) in
     let own : bytes_after ahead (g ∷ middle) ≡ storage (g ∷ middle) = section_bytes ahead g middle e in
     omega (arith, all, whole, here, own)
+
+pub within_record : (ahead : List Row) (g : Row) (middle : List Row) (k : Row) (rest : List Row) → g.starts ≡ true → list_all (goes_on g) (middle ++ k ∷ []) ≡ true
+    → storage (ahead ++ g ∷ middle) ≤ storage ahead + storage (g ∷ members g (middle ++ k ∷ rest))
+within_record ahead g middle k rest e h =
+    within_begun ahead g middle (k ∷ rest) e (all_first (list_all (goes_on g) middle) (list_all (goes_on g) (k ∷ [])) (sym (list_all-append (goes_on g) middle (k ∷ [])) ∙ h)).0
 
 pub no_less : (ahead rest : List Row) → storage ahead ≤ storage (ahead ++ rest)
 no_less ahead rest = omega (arith, storage-append ahead rest)
@@ -99,3 +106,55 @@ own_part b row rest = ap (λ rows. if b then storage rows else row.size) (while_
 -- a record has the bytes of its members
 pub size_within : (row : Row) (rest : List Row) → size_of row rest ≤ storage (row ∷ members row rest)
 size_within row rest = omega (arith, size_le [] row (members row rest), own_part row.group row rest)
+
+-- ---- where what lies in a record ends
+
+deeper : (a b c : ℕ) → nat_lt a b ≡ true → nat_lt b c ≡ true → nat_lt a c ≡ true
+deeper a b c h k = grind (arith, nat_tests)
+
+goes_further : (g k x : Row) → goes_on g k ≡ true → goes_on k x ≡ true → goes_on g x ≡ true
+goes_further g k x h i =
+    let outer = all_first (not k.starts) _ h in
+    let inner = all_first (not x.starts) _ i in
+    rw (inner.0, deeper (rank g.level) (rank k.level) (rank x.level) outer.1 inner.1) refl
+
+all_further : (g k : Row) (rows : List Row) → goes_on g k ≡ true → list_all (goes_on k) rows ≡ true → list_all (goes_on g) rows ≡ true
+all_further g k [] h i = refl
+all_further g k (x ∷ rows) h i = let parts = all_first (goes_on k x) _ i in rw (goes_further g k x h parts.0, all_further g k rows h parts.1) refl
+
+-- what stands in a record ends where the record does, or before
+pub ends_within : (ahead : List Row) (g : Row) (middle : List Row) (k : Row) (rest : List Row) → g.starts ≡ true → list_all (goes_on g) (middle ++ k ∷ []) ≡ true
+    → storage (ahead ++ g ∷ middle) + size_of k rest ≤ storage ahead + storage (g ∷ members g (middle ++ k ∷ rest))
+ends_within ahead g middle k rest e h =
+    let inside : List Row = members k rest in
+    let left : List Row = drop (prefix_len (goes_on k) rest) rest in
+    let parts = all_first (list_all (goes_on g) middle) (list_all (goes_on g) (k ∷ [])) (sym (list_all-append (goes_on g) middle (k ∷ [])) ∙ h) in
+    let here : goes_on g k ≡ true = (all_first (goes_on g k) true parts.1).0 in
+    let later : list_all (goes_on g) (k ∷ inside) ≡ true = rw (here, all_further g k inside here (while_passes (goes_on k) rest)) refl in
+    let all : list_all (goes_on g) (middle ++ k ∷ inside) ≡ true = list_all-append (goes_on g) middle (k ∷ inside) ∙ rw (parts.0, later) refl in
+    let whole : (middle ++ k ∷ inside) ++ left ≡ middle ++ k ∷ rest = append_assoc middle (k ∷ inside) left ∙ ap (λ rows. middle ++ k ∷ rows) (take-append-drop (prefix_len (goes_on k) rest) rest) in
+    let front : (ahead ++ g ∷ middle) ++ k ∷ inside ≡ ahead ++ g ∷ (middle ++ k ∷ inside) = append_assoc ahead (g ∷ middle) (k ∷ inside) in
+    let end = within_begun ahead g (middle ++ k ∷ inside) left e all in
+    let same : storage (g ∷ members g ((middle ++ k ∷ inside) ++ left)) ≡ storage (g ∷ members g (middle ++ k ∷ rest)) = ap (λ rows. storage (g ∷ members g rows)) whole in
+    omega (arith, size_le (ahead ++ g ∷ middle) k inside, own_part k.group k rest, ap storage front, end, same)
+
+once_alone : (o : Option ℕ) → is_some o ≡ false → number_of_times o ≡ 1
+once_alone None e = refl
+once_alone (Some number) e = cc e
+
+times_alone : (b : Bool) (g : Row) (rows : List Row) → number_of_times g.occurs ≡ 1 → times (if b then g ∷ rows else rows) ≡ times rows
+times_alone true g rows e = rw e (omega arith)
+times_alone false g rows e = refl
+
+bytes_alone : (g : Row) (before rows : List Row) → number_of_times g.occurs ≡ 1 → bytes_after (g ∷ before) rows ≡ bytes_after before rows
+bytes_alone g before [] e = refl
+bytes_alone g before (x ∷ rows) e =
+    let here : times (opened (g ∷ (before ++ x ∷ []))) ≡ times (opened (before ++ x ∷ [])) = times_alone (list_all (goes_on g) (before ++ x ∷ [])) g (opened (before ++ x ∷ [])) e in
+    ap (λ n. own_size x * n + bytes_after (g ∷ (before ++ x ∷ [])) rows) here ∙ ap (λ n. own_size x * times (opened (before ++ x ∷ [])) + n) (bytes_alone g (before ++ x ∷ []) rows e)
+
+-- a group without OCCURS has the bytes of its members, and no more
+pub group_bytes : (g : Row) (rest : List Row) → g.group ≡ true → is_some g.occurs ≡ false → storage (g ∷ members g rest) ≡ size_of g rest
+group_bytes g rest e o =
+    let none : own_size g ≡ 0 = ap (λ (b : Bool). if b then 0 else g.size) e in
+    let size : size_of g rest ≡ storage (members g rest) = ap (λ (b : Bool). if b then storage (members g rest) else g.size) e in
+    ap (λ n. n * times (opened (g ∷ [])) + bytes_after (g ∷ []) (members g rest)) none ∙ omega (arith, bytes_alone g [] (members g rest) (once_alone g.occurs o), size)

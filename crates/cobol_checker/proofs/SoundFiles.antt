@@ -1,14 +1,16 @@
 -- The files of a front without faults.
-use Rattle.std.proofs.Common.{◌≡◌, ◌∙◌, inl, inr, refl, sym, ap, subst, arith, ℕ, zero, suc, ◌+◌, ◌<◌, ◌==◌, Bool, true, false, not, ◌&&◌, ◌||◌, nat_lt, List, [], ◌∷◌, ◌++◌, length, map, get_or, Option, Some, None}
+use Rattle.std.proofs.Common.{◌≡◌, ◌∙◌, inl, inr, refl, sym, ap, subst, arith, ℕ, zero, suc, ◌+◌, ◌<◌, ◌≤◌, ◌==◌, Bool, true, false, not, ◌&&◌, ◌||◌, nat_lt, List, [], ◌∷◌, ◌++◌, length, map, get_or, Option, Some, None}
 use Rattle.std.specs.Prelude.{filter, option_to_list, is_none, count_by, slice_get}
 use Rattle.std.specs.List.{list_any, list_all, filter_map, flat_map, position_from}
 use Rattle.std.proofs.lemmas.Bool.{cases_lt, eq-eqb}
+use Rattle.std.proofs.lemmas.Bool.Decides.{nat_tests}
 use Rattle.std.proofs.lemmas.Iterator.Adapters.{position_from-zero}
 use Rattle.cob_base.specs.declared.divisions.Front.{Front}
 use Rattle.cob_base.specs.declared.divisions.FileDescription.{FileDescription}
 use Rattle.cob_base.specs.declared.file_entries.FileEntry.{FileEntry}
 use Rattle.cob_base.specs.declared.operands.Reference.{Reference}
 use Rattle.sharing_table.specs.declared.shape.KeyPlace.{KeyPlace}
+use Rattle.data_layout.specs.Rows.{sections}
 use Rattle.data_layout.specs.Storage.{storage}
 use Rattle.data_layout.specs.Faults.{has_size, is_unreadable}
 use Rattle.data_layout.proofs.PlacedRows.{keeps_limit}
@@ -31,6 +33,7 @@ use Rattle.cobol_checker.specs.Sound.{IsPlaceIn, AreKeysIn, AreApart, IsSoundFil
 use Rattle.cobol_checker.proofs.NoFaults.{faultless_of, NoneFails, none_fails, empty_parts, none_told}
 use Rattle.cobol_checker.proofs.LaidOut.{laid_rows}
 use Rattle.cobol_checker.proofs.Sectioned.{sectioned}
+use Rattle.cobol_checker.proofs.Grouped.{grouped_all}
 use Rattle.cobol_checker.proofs.SoundKeys.{Whole, KeyGood, key_good}
 
 neither : (a b : Bool) → (a || b) ≡ false → (a ≡ false) × (b ≡ false)
@@ -93,6 +96,7 @@ all_sized (x ∷ items) e =
 whole : (front : Front) (items : List DataItem) (screens : List ScreenItem) (h : AreDataItems front items) (n : NoneFails front items screens) → Whole items
 whole front items screens h n = record {
   sections = sectioned front items h;
+  grouped = grouped_all 0 (sections front) (map (λ (item : DataItem). item.row) items) (map (λ (item : DataItem). item.text) items) h.rows;
   past = n.past;
   sized = all_sized items n.unreadable;
   total = keeps_limit [] (map (λ (item : DataItem). item.row) items) (omega arith) refl (laid_rows [] items n.past n.outside n.wrong n.unreadable);
@@ -116,7 +120,7 @@ described front name e =
 
 -- ---- the keys of a file
 
-abbrev AllGood : Front → List DataItem → FileEntry → ℕ → List Reference → Type 0
+abbrev pub AllGood : Front → List DataItem → FileEntry → ℕ → List Reference → Type 0
 AllGood front items file number [] = Unit {0}
 AllGood front items file number (key ∷ keys) = KeyGood front items file number key × AllGood front items file number keys
 
@@ -229,10 +233,33 @@ some_of : {A : Type 0} (o : Option A) → is_none o ≡ false → (x : A) × (o 
 some_of None e = cc e
 some_of (Some x) e = (x, refl)
 
-file_sound : (front : Front) (items : List DataItem) (file : FileEntry) → Whole items → not (is_described front file.name) ≡ false
+no_more : (k n : ℕ) → nat_lt k n ≡ false → n ≤ k
+no_more k n h = grind (arith, nat_tests)
+
+-- the references of the alternates of a file
+abbrev others_of : FileEntry → List Reference
+others_of file = map (λ (one : Alternate). one.key) (alternates file.clauses)
+
+-- what no condition leaves open of a file: its description, its prime key and its alternates, all of them good, and no two at one place
+pub record Known (front : Front) (items : List DataItem) (file : FileEntry) : Type 0 where
+  pub number : ℕ
+  pub described : description_of front file.name ≡ Some number
+  pub key : Reference
+  pub key_is : record_key file.clauses ≡ Some key
+  pub prime : KeyGood front items file number key
+  pub others : AllGood front items file number (others_of file)
+  pub twins : has_twins same_place (filter_map (λ (one : Reference). placed_key (Some number) (found items one)) (key ∷ others_of file)) ≡ false
+  pub few : length (alternates file.clauses) ≤ 3
+  pub duplicates : count_by (λ (one : Alternate). one.duplicates) (alternates file.clauses) ≤ 1
+
+abbrev pub AllKnown : Front → List DataItem → List FileEntry → Type 0
+AllKnown front items [] = Unit {0}
+AllKnown front items (file ∷ all) = Known front items file × AllKnown front items all
+
+file_known : (front : Front) (items : List DataItem) (file : FileEntry) → Whole items → not (is_described front file.name) ≡ false
     → list_any (λ (key : Reference). count_of_matches items key == 0) (keys_of file) ≡ false → list_any (λ (key : Reference). nat_lt 1 (count_of_matches items key)) (keys_of file) ≡ false
-    → has_bad_keys front items file ≡ false → has_key_past_limit items file ≡ false → IsSoundFile front items file
-file_sound front items file w u none several bad past =
+    → has_bad_keys front items file ≡ false → has_key_past_limit items file ≡ false → Known front items file
+file_known front items file w u none several bad past =
     let n = described front file.name (not_false (is_described front file.name) u) in
     let number = n.0 in
     let description = description_of front file.name in
@@ -241,40 +268,53 @@ file_sound front items file w u none several bad past =
     let clauses2 = neither (is_none (record_key file.clauses) || nat_lt 3 (length (alternates file.clauses))) (nat_lt 1 (count_by (λ (one : Alternate). one.duplicates) (alternates file.clauses))) bad1.0 in
     let clauses1 = neither (is_none (record_key file.clauses)) (nat_lt 3 (length (alternates file.clauses))) clauses2.0 in
     let prime = some_of (record_key file.clauses) clauses1.0 in
-    let others : List Reference = map (λ (one : Alternate). one.key) (alternates file.clauses) in
-    let keys_are : keys_of file ≡ prime.0 ∷ others = ap (λ (key : Option Reference). option_to_list key ++ others) prime.1 in
+    let keys_are : keys_of file ≡ prime.0 ∷ others_of file = ap (λ (key : Option Reference). option_to_list key ++ others_of file) prime.1 in
     let no_key : has_no_key items (Some number) file ≡ false = ap (λ (one : Option ℕ). has_no_key items one file) (sym n.1) ∙ bad1.1 in
     let twins : are_at_one_place items (Some number) file ≡ false = ap (λ (one : Option ℕ). are_at_one_place items one file) (sym n.1) ∙ bad2.1 in
     let all = all_good front items file number (keys_of file) w n.1 none several no_key past in
     let good = subst (AllGood front items file number) keys_are all in
-    let apart = later_twins same_place (λ (key : Reference). placed_key (Some number) (found items key)) prime.0 others _ refl (subst (λ (keys : List Reference). has_twins same_place (filter_map (λ (key : Reference). placed_key (Some number) (found items key)) keys) ≡ false) keys_are twins) in
     record {
       number = number;
       described = n.1;
-      spot = good.0.owner;
-      record_is = good.0.owner_is;
-      record_few = good.0.few;
-      begins_few = good.0.begins;
-      prime = (prime.0, prime.1, record { spot = good.0.spot; found_is = good.0.found_is; inside = good.0.inside });
-      others = others_in front items file number good.0.owner (alternates file.clauses) good.0.owner_is good.1;
-      apart = apart_places front items file number (storage (rows_before good.0.owner)) (alternates file.clauses) good.1 apart;
+      key = prime.0;
+      key_is = prime.1;
+      prime = good.0;
+      others = good.1;
+      twins = subst (λ (keys : List Reference). has_twins same_place (filter_map (λ (key : Reference). placed_key (Some number) (found items key)) keys) ≡ false) keys_are twins;
+      few = no_more 3 (length (alternates file.clauses)) clauses1.1;
+      duplicates = no_more 1 (count_by (λ (one : Alternate). one.duplicates) (alternates file.clauses)) clauses2.1;
     }
 
-files_sound : (front : Front) (items : List DataItem) (all : List FileEntry) → Whole items → list_any (λ (file : FileEntry). not (is_described front file.name)) all ≡ false
+file_sound : (front : Front) (items : List DataItem) (file : FileEntry) → Known front items file → IsSoundFile front items file
+file_sound front items file k =
+    let apart = later_twins same_place (λ (key : Reference). placed_key (Some k.number) (found items key)) k.key (others_of file) _ refl k.twins in
+    record {
+      number = k.number;
+      described = k.described;
+      spot = k.prime.owner;
+      record_is = k.prime.owner_is;
+      record_few = k.prime.few;
+      begins_few = k.prime.begins;
+      prime = (k.key, k.key_is, record { spot = k.prime.spot; found_is = k.prime.found_is; inside = k.prime.inside });
+      others = others_in front items file k.number k.prime.owner (alternates file.clauses) k.prime.owner_is k.others;
+      apart = apart_places front items file k.number (storage (rows_before k.prime.owner)) (alternates file.clauses) k.others apart;
+    }
+
+all_known : (front : Front) (items : List DataItem) (all : List FileEntry) → Whole items → list_any (λ (file : FileEntry). not (is_described front file.name)) all ≡ false
     → list_any (λ (file : FileEntry). list_any (λ (key : Reference). count_of_matches items key == 0) (keys_of file)) all ≡ false
     → list_any (λ (file : FileEntry). list_any (λ (key : Reference). nat_lt 1 (count_of_matches items key)) (keys_of file)) all ≡ false
-    → list_any (has_bad_keys front items) all ≡ false → list_any (has_key_past_limit items) all ≡ false → AreSoundFiles front items all
-files_sound front items [] w a b c d e = tt
-files_sound front items (file ∷ all) w a b c d e =
+    → list_any (has_bad_keys front items) all ≡ false → list_any (has_key_past_limit items) all ≡ false → AllKnown front items all
+all_known front items [] w a b c d e = tt
+all_known front items (file ∷ all) w a b c d e =
     let as' = neither (not (is_described front file.name)) _ a in
     let bs = neither (list_any (λ (key : Reference). count_of_matches items key == 0) (keys_of file)) _ b in
     let cs = neither (list_any (λ (key : Reference). nat_lt 1 (count_of_matches items key)) (keys_of file)) _ c in
     let ds = neither (has_bad_keys front items file) _ d in
     let es = neither (has_key_past_limit items file) _ e in
-    (file_sound front items file w as'.0 bs.0 cs.0 ds.0 es.0, files_sound front items all w as'.1 bs.1 cs.1 ds.1 es.1)
+    (file_known front items file w as'.0 bs.0 cs.0 ds.0 es.0, all_known front items all w as'.1 bs.1 cs.1 ds.1 es.1)
 
-pub sound_files : (front : Front) (items : List DataItem) → AreDataItems front items → IsFaultless front → AreSoundFiles front items (files front)
-sound_files front items h f =
+pub known_files : (front : Front) (items : List DataItem) → AreDataItems front items → IsFaultless front → AllKnown front items (files front)
+known_files front items h f =
     let faults : front_faults front items f.screens ≡ [] = ap (λ (all : List DataItem). front_faults front all f.screens) (items_once front items f.items h f.items_are) ∙ f.faultless in
     let lists = faultless_of front items f.screens faults in
     let none = none_fails front items f.screens lists in
@@ -283,5 +323,12 @@ sound_files front items h f =
     let undescribed = none_told (λ (file : FileEntry). file.line) (λ (file : FileEntry). not (is_described front file.name)) (files front) unknown1.0 in
     let unmatched = none_told (λ (one : Mention). one.line) (λ (one : Mention). count_of_matches items one.reference == 0) (mentions front) unknown2.1 in
     let several = none_told (λ (one : Mention). one.line) (λ (one : Mention). nat_lt 1 (count_of_matches items one.reference)) (mentions front) lists.ambiguous in
-    files_sound front items (files front) (whole front items f.screens h none) undescribed (of_files front (λ (key : Reference). count_of_matches items key == 0) unmatched)
+    all_known front items (files front) (whole front items f.screens h none) undescribed (of_files front (λ (key : Reference). count_of_matches items key == 0) unmatched)
     (of_files front (λ (key : Reference). nat_lt 1 (count_of_matches items key)) several) none.bad_keys none.keys_past
+
+all_sound : (front : Front) (items : List DataItem) (all : List FileEntry) → AllKnown front items all → AreSoundFiles front items all
+all_sound front items [] k = tt
+all_sound front items (file ∷ all) k = (file_sound front items file k.0, all_sound front items all k.1)
+
+pub sound_files : (front : Front) (items : List DataItem) → AreDataItems front items → IsFaultless front → AreSoundFiles front items (files front)
+sound_files front items h f = all_sound front items (files front) (known_files front items h f)

@@ -1,5 +1,5 @@
 -- A key of a file of a front without faults lies in the file's record.
-use Rattle.std.proofs.Common.{◌≡◌, ◌∙◌, refl, sym, ap, subst, arith, ℕ, ◌+◌, ◌≤◌, ◌==◌, Bool, true, false, not, ◌&&◌, ◌||◌, nat_lt, List, [], ◌∷◌, ◌++◌, append_assoc, append-nil, length, map, Option, Some, None}
+use Rattle.std.proofs.Common.{◌≡◌, ◌∙◌, refl, sym, ap, subst, arith, ℕ, zero, suc, ◌+◌, ◌≤◌, ◌==◌, Bool, true, false, not, ◌&&◌, ◌||◌, nat_lt, List, [], ◌∷◌, ◌++◌, append_assoc, append-nil, length, map, Option, Some, None}
 use Rattle.std.specs.Prelude.{find, is_some}
 use Rattle.std.specs.List.{list_any, list_all}
 use Rattle.std.proofs.lemmas.Bool.{eqb-true, eq-eqb}
@@ -13,7 +13,7 @@ use Rattle.data_layout.specs.declared.row.Row.{Row}
 use Rattle.data_layout.specs.Storage.{goes_on, members, storage}
 use Rattle.data_layout.specs.Faults.{has_size, is_in_range, passes_storage, passes_record}
 use Rattle.data_names.specs.Items.{DataItem}
-use Rattle.data_names.specs.Spots.{Spot, spots, spots_after, spot_of, groups_of, rows_before, rows_after, bytes_of, is_sized, is_table, is_record, is_in_record}
+use Rattle.data_names.specs.Spots.{Spot, spots, spots_after, spot_of, groups_of, rows_before, rows_after, bytes_of, around, is_sized, is_repeated, is_table, is_record, is_in_record}
 use Rattle.data_names.specs.References.{found, only_one, matching, is_match, count_of_matches}
 use Rattle.data_names.proofs.Cuts.{spot_cut}
 use Rattle.front_rules.specs.Limits.{is_item_past_limit, is_key_past_limit}
@@ -23,8 +23,9 @@ use Rattle.key_rules.specs.Descriptions.{is_record_under}
 use Rattle.cobol_checker.specs.Shapes.{record_of}
 use Rattle.cobol_checker.specs.Sound.{IsPlaceIn}
 use Rattle.cobol_checker.proofs.Sectioned.{Sectioned, one_file, inside_file, first_of_file}
-use Rattle.cobol_checker.proofs.RecordBytes.{within_record, no_less, size_within, while_all}
-use Rattle.cobol_checker.proofs.Groups.{InGroup, in_group, found_first}
+use Rattle.cobol_checker.proofs.Grouped.{AreGrouped, is_group}
+use Rattle.cobol_checker.proofs.RecordBytes.{within_record, ends_within, group_bytes, no_less, size_within, while_all}
+use Rattle.cobol_checker.proofs.Groups.{InGroup, in_group, group_lacks, found_first}
 
 -- ---- tests
 
@@ -57,6 +58,7 @@ number_known number (Some m) h = ap Some (sym (eqb-true number m h))
 -- what a front without faults says of its items
 pub record Whole (items : List DataItem) : Type 0 where
   pub sections : Sectioned None 0 items
+  pub grouped : AreGrouped (map (λ (item : DataItem). item.row) items)
   pub past : list_any is_item_past_limit (spots items) ≡ false
   pub sized : list_all (λ (item : DataItem). has_size item.row) items ≡ true
   pub total : storage (map (λ (item : DataItem). item.row) items) ≤ 1000000
@@ -133,6 +135,8 @@ pub record KeyGood (front : Front) (items : List DataItem) (file : FileEntry) (n
   pub inside : IsPlaceIn (storage (rows_before owner)) spot
   pub few : bytes_of owner ≤ 512
   pub begins : storage (rows_before owner) ≤ 1000000
+  pub some : 1 ≤ bytes_of spot
+  pub ends : storage (rows_before spot) + bytes_of spot ≤ storage (rows_before owner) + bytes_of owner
   pub placed : placed_key (Some number) (Some spot) ≡ Some spot
 
 -- the record around an item
@@ -141,6 +145,7 @@ record Owner (front : Front) (items : List DataItem) (file : FileEntry) (spot : 
   owner_is : record_of front items file ≡ Some owner
   low : storage (rows_before owner) ≤ storage (rows_before spot)
   high : storage (rows_before spot) ≤ storage (rows_before owner) + 512
+  ends : storage (rows_before spot) + bytes_of spot ≤ storage (rows_before owner) + bytes_of owner
   few : bytes_of owner ≤ 512
   begins : storage (rows_before owner) ≤ 1000000
 
@@ -158,6 +163,7 @@ owner_itself front items file spot number w cut r e d =
       owner_is = record_found front items file spot.before spot.item spot.rest number w cut r e d;
       low = omega arith;
       high = omega arith;
+      ends = omega arith;
       few = omega (arith, bytes, size_within spot.item.row (rows_after spot));
       begins = before_total items spot.before (spot.item ∷ spot.rest) w cut;
     }
@@ -173,8 +179,8 @@ goes_inside g (x ∷ xs) e =
     let here = (both (not x.row.starts) _ parts.0).0 in rw (here, goes_inside g xs parts.1) refl
 
 owner_around : (front : Front) (items : List DataItem) (file : FileEntry) (spot : Spot DataItem) (number : ℕ) → Whole items → items ≡ spot.before ++ spot.item ∷ spot.rest
-    → InGroup spot.before spot.item is_record → spot.item.source.file ≡ Some number → description_of front file.name ≡ Some number → Owner front items file spot
-owner_around front items file spot number w cut i e d =
+    → is_table spot ≡ false → InGroup spot.before spot.item is_record → spot.item.source.file ≡ Some number → description_of front file.name ≡ Some number → Owner front items file spot
+owner_around front items file spot number w cut alone i e d =
     let rest = i.middle ++ spot.item ∷ spot.rest in
     let cut' : items ≡ i.ahead ++ i.group ∷ rest = cut ∙ ap (λ (front : List DataItem). front ++ spot.item ∷ spot.rest) i.cut ∙ append_assoc i.ahead (i.group ∷ i.middle) (spot.item ∷ spot.rest) in
     let all : list_all (λ (other : DataItem). goes_on i.group.row other.row) (i.middle ++ spot.item ∷ []) ≡ true = list_all-append (λ (other : DataItem). goes_on i.group.row other.row) i.middle (spot.item ∷ []) ∙ rw (i.goes, i.holds) refl in
@@ -188,20 +194,26 @@ owner_around front items file spot number w cut i e d =
     let open_is : list_all (goes_on i.group.row) (rows i.middle ++ spot.item.row ∷ []) ≡ true = ap (list_all (goes_on i.group.row)) (sym (map-append (λ (item : DataItem). item.row) i.middle (spot.item ∷ []))) ∙ goes_map i.group.row (i.middle ++ spot.item ∷ []) all in
     let within = within_record (rows i.ahead) i.group.row (rows i.middle) spot.item.row (rows spot.rest) (both i.group.row.starts (i.group.row.level == 1) i.passes).0 open_is in
     let members_are : storage (i.group.row ∷ members i.group.row (rows i.middle ++ spot.item.row ∷ rows spot.rest)) ≡ storage (i.group.row ∷ members i.group.row (rows rest)) = ap (λ (later : List Row). storage (i.group.row ∷ members i.group.row later)) (sym rest_is) in
+    let rows_are : rows items ≡ rows i.ahead ++ i.group.row ∷ (rows i.middle ++ spot.item.row ∷ rows spot.rest) = ap rows cut' ∙ map-append (λ (item : DataItem). item.row) i.ahead (i.group ∷ rest) ∙ ap (λ (later : List Row). rows i.ahead ++ i.group.row ∷ later) rest_is in
+    let group : i.group.row.group ≡ true = is_group (rows i.ahead) i.group.row (rows i.middle) spot.item.row (rows spot.rest) (subst AreGrouped rows_are w.grouped) open_is in
+    let repeated = subst (λ (front : List DataItem). list_any (λ (other : DataItem). is_some other.row.occurs) (around (λ other. other.row) front spot.item) ≡ false) i.cut (neither (is_repeated spot) (is_some spot.item.row.occurs) alone).0 in
+    let once : is_some i.group.row.occurs ≡ false = group_lacks (λ (other : DataItem). is_some other.row.occurs) i.ahead i.group i.middle spot.item i.goes i.holds repeated in
+    let ends = ends_within (rows i.ahead) i.group.row (rows i.middle) spot.item.row (rows spot.rest) (both i.group.row.starts (i.group.row.level == 1) i.passes).0 open_is in
     record {
       owner = spot_of i.ahead i.group rest;
       owner_is = record_found front items file i.ahead i.group rest number w cut' i.passes file_is d;
       low = omega (arith, ap storage before_is, no_less (rows i.ahead) (i.group.row ∷ rows i.middle));
       high = omega (arith, ap storage before_is, within, members_are, bytes);
+      ends = omega (arith, ap storage before_is, ends, members_are, group_bytes i.group.row (rows rest) group once);
       few = omega (arith, bytes, size_within i.group.row (rows rest));
       begins = before_total items i.ahead (i.group ∷ rest) w cut';
     }
 
 either_owner : (front : Front) (items : List DataItem) (file : FileEntry) (spot : Spot DataItem) (number : ℕ) (b : Bool) → is_record spot.item ≡ b → Whole items → items ≡ spot.before ++ spot.item ∷ spot.rest
-    → (list_any is_record (groups_of spot) || b) ≡ true → spot.item.source.file ≡ Some number → description_of front file.name ≡ Some number → Owner front items file spot
-either_owner front items file spot number true r w cut e f d = owner_itself front items file spot number w cut r f d
-either_owner front items file spot number false r w cut e f d =
-    owner_around front items file spot number w cut (in_group spot.before spot.item is_record (first (list_any is_record (groups_of spot)) e)) f d
+    → is_table spot ≡ false → (list_any is_record (groups_of spot) || b) ≡ true → spot.item.source.file ≡ Some number → description_of front file.name ≡ Some number → Owner front items file spot
+either_owner front items file spot number true r w cut alone e f d = owner_itself front items file spot number w cut r f d
+either_owner front items file spot number false r w cut alone e f d =
+    owner_around front items file spot number w cut alone (in_group spot.before spot.item is_record (first (list_any is_record (groups_of spot)) e)) f d
   where
     first : (a : Bool) → (a || false) ≡ true → a ≡ true
     first true e = refl
@@ -214,6 +226,13 @@ one_of (x ∷ (y ∷ xs)) e f = absurd (omega (arith, no_more 1 (length (x ∷ (
 
 few_of_key : (a b : Bool) (n : ℕ) → a ≡ true → (a && (b || nat_lt 64 n)) ≡ false → n ≤ 64
 few_of_key a b n e h = no_more 64 n (neither b (nat_lt 64 n) (second a (b || nat_lt 64 n) h e)).1
+
+some_of_key : (a c : Bool) (n : ℕ) → a ≡ true → (a && ((n == 0) || c)) ≡ false → 1 ≤ n
+some_of_key a c n e h = not_none n (neither (n == 0) c (second a ((n == 0) || c) h e)).0
+  where
+    not_none : (m : ℕ) → (m == 0) ≡ false → 1 ≤ m
+    not_none zero f = cc f
+    not_none (suc m) f = omega arith
 
 pub key_good : (front : Front) (items : List DataItem) (file : FileEntry) (number : ℕ) (key : Reference) → Whole items → description_of front file.name ≡ Some number
     → (count_of_matches items key == 0) ≡ false → nat_lt 1 (count_of_matches items key) ≡ false → is_no_key (Some number) (found items key) ≡ false → is_key_past_limit (found items key) ≡ false
@@ -230,7 +249,7 @@ key_good front items file number key w d some few lies past =
     let of_record : is_of_record (Some number) spot ≡ true = not_false (is_of_record (Some number) spot) tables.0 in
     let parts = both (same_number (Some number) spot.item.source.file) (is_in_record spot) of_record in
     let file_is = number_known number spot.item.source.file parts.0 in
-    let owner = either_owner front items file spot number (is_record spot.item) refl w cut parts.1 file_is d in
+    let owner = either_owner front items file spot number (is_record spot.item) refl w cut tables.1 parts.1 file_is d in
     let sized = subst (λ (all : List DataItem). list_all (λ (item : DataItem). has_size item.row) all ≡ true) cut w.sized in
     let known : is_sized spot ≡ true = sized_from spot.before spot.item spot.rest sized in
     let bytes : bytes_of spot ≤ 64 = few_of_key (is_sized spot) (bytes_of spot == 0) (bytes_of spot) known past' in
@@ -245,5 +264,7 @@ key_good front items file number key w d some few lies past =
       inside = record { low = owner.low; high = owner.high; small = small; few = bytes };
       few = owner.few;
       begins = owner.begins;
+      some = some_of_key (is_sized spot) (nat_lt 64 (bytes_of spot)) (bytes_of spot) known past';
+      ends = owner.ends;
       placed = rw (of_record, tables.1, known, none) refl;
     }

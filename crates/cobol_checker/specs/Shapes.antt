@@ -1,11 +1,12 @@
 -- The shape of a file's records, as its file control entry and its record say it.
-use Rattle.std.specs.Prelude.{◌≡◌, ℕ, ◌+◌, ◌<◌, ◌⊎◌, Bool, false, ◌&&◌, List, [], ◌∷◌, Option, Some, IsPermutation, AllPairs, find}
+use Rattle.std.specs.Prelude.{◌≡◌, ℕ, ◌+◌, Bool, false, ◌&&◌, List, [], ◌∷◌, Option, Some, IsPermutation, find}
 use Rattle.cob_base.specs.declared.divisions.Front.{Front}
 use Rattle.cob_base.specs.declared.file_entries.FileEntry.{FileEntry}
 use Rattle.cob_base.specs.declared.operands.Reference.{Reference}
 use Rattle.data_layout.specs.Storage.{storage}
 use Rattle.sharing_table.specs.declared.shape.Shape.{Shape}
 use Rattle.sharing_table.specs.declared.shape.KeyPlace.{KeyPlace}
+use Rattle.sharing_table.specs.Sound.{AreAscending}
 use Rattle.data_names.specs.Parts.{files}
 use Rattle.entry_clauses.specs.Clauses.{Alternate, record_key, alternates}
 use Rattle.data_names.specs.Items.{DataItem}
@@ -31,13 +32,6 @@ AreKeyPlaces items begins [] places = places ≡ []
 AreKeyPlaces items begins (alternate ∷ others) [] = ⊥
 AreKeyPlaces items begins (alternate ∷ others) (place ∷ places) =
     IsKeyPlace items begins alternate.key alternate.duplicates place × AreKeyPlaces items begins others places
-
--- ascending by offset, then by length
-abbrev pub IsBelow : KeyPlace → KeyPlace → Type 0
-IsBelow place other = (place.offset < other.offset) ⊎ ((place.offset ≡ other.offset) × (place.length < other.length))
-
-abbrev pub AreAscending : List KeyPlace → Type 0
-AreAscending places = AllPairs IsBelow places
 
 -- The length of the file's record, the place of its prime key, which allows no duplicates, and those of its alternates, in order.
 pub record IsShape (front : Front) (items : List DataItem) (file : FileEntry) (shape : Shape) : Type 0 where

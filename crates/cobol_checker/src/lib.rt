@@ -9,4 +9,4 @@ mod shapes;
 
 pub use checking::{Checked, check};
 pub use fault::CheckFault;
-pub use laws::checks_are_definite;
+pub use laws::{checks_are_definite, shapes_are_sound};

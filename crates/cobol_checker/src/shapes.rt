@@ -10,7 +10,8 @@ ghost use Rattle.sharing_table.specs.declared.shape.KeyPlace.{KeyPlace};
 ghost use Rattle.key_rules.specs.Descriptions.{AreDescriptions};
 ghost use Rattle.cobol_checker.specs.Judged.{IsFaultless};
 ghost use Rattle.cobol_checker.specs.Sound.{IsPlaceAt, IsPlaceOf, IsKeyIn, AreKeysIn, IsPrimeIn, IsRecordAt, AreApart, IsSoundFile, AreSoundFiles, rank};
-ghost use Rattle.cobol_checker.specs.Shapes.{IsKeyPlace, AreKeyPlaces, IsShape, AreShapes, AreShapesOf, AreAscending};
+ghost use Rattle.sharing_table.specs.Sound.{AreAscending};
+ghost use Rattle.cobol_checker.specs.Shapes.{IsKeyPlace, AreKeyPlaces, IsShape, AreShapes, AreShapesOf};
 
 use cob_base::{FileClause, FileEntry, Front, Items, NoMemory, Reference};
 use data_names::{Table, files};
