@@ -20,5 +20,6 @@ pub mod ScreenPlaces
 pub mod ScreenPictures
 pub mod ScreenContents
 pub mod ScreenReferences
+pub mod AlternateKeys
 pub mod ScreensPlanned
 pub mod CanOpen

@@ -1,5 +1,6 @@
 pub mod Shapes
 pub mod Outcome
 pub mod Judged
+pub mod References
 pub mod Seen
 pub mod Sound

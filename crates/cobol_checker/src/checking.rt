@@ -24,11 +24,13 @@ ghost use Rattle.screen_layout.specs.Plans.{IsPlanOf};
 ghost use Rattle.screen_layout.specs.declared.fault.ScreenFault.{ScreenFault};
 
 use crate::CheckFault;
-use crate::asking::asked_pairs;
+use crate::references::references_of;
 use crate::shapes::shapes_of;
 use cob_base::{ByteText, Front, Items, NoMemory, Program};
 use data_layout::{Described, Layout, LayoutFault, Row, gather, lay_out};
-use data_names::{KnownItem, Names, Pairs, Table, facts_of, known_items, screen_entries};
+use data_names::{
+    AskedPairs, KnownItem, Names, Pairs, Table, facts_of, known_items, screen_entries,
+};
 use entry_clauses::{KnownScreen, screen_items};
 use front_rules::note_front_faults;
 use key_rules::Descriptions;
@@ -77,7 +79,8 @@ impl Checked {
         self.shapes.as_slice()
     }
 
-    /// The bytes of storage before the first statement.
+    /// The bytes of storage before the first statement, as many as the layout has in all. The program is in the profile, as `check`
+    /// gives it.
     pub fn opening(&self, alloc: Global) -> Result<ByteText, NoMemory>
         requires { IsInProfile (seen_checked self.now) }
         ensures { IfOk result (λ bytes. IsOpeningOf self.now.program.front self.now.layout bytes) }
@@ -160,7 +163,8 @@ fn judge_items(
 {
     let facts = facts_of(alloc, items, rows)?;
     let names = Names::of(alloc, items)?;
-    let asked = asked_pairs(alloc, program, &names)?;
+    let references = references_of(alloc, program)?;
+    let asked = AskedPairs::of(alloc, &names, references.as_slice())?;
     let pairs = Pairs::of(alloc, items, facts.as_slice(), asked)?;
     let table = Table {
         items,

@@ -1,10 +1,10 @@
 //! Whether a program keeps the rules of the language, and the first rule that it breaks.
 #![tactic(auto)]
 
-mod asking;
 mod checking;
 mod fault;
 mod laws;
+mod references;
 mod shapes;
 
 pub use checking::{Checked, check};

@@ -1,8 +1,9 @@
 -- The items that the code holds, as the definitions see them.
-use Rattle.std.specs.Prelude.{ℕ, List, Option, Some, None}
+use Rattle.std.specs.Prelude.{ℕ, List, map, Option, Some, None}
 use denote.Ref.{Bor}
 use Rattle.cob_base.specs.declared.text.ByteText.{ByteText}
 use Rattle.cob_base.specs.declared.data_entries.ItemEntry.{ItemEntry}
+use Rattle.cob_base.specs.declared.operands.Reference.{Reference}
 use Rattle.data_layout.specs.Rows.{picture_text}
 use Rattle.data_names.specs.declared.known.FiledEntry.{FiledEntry}
 use Rattle.data_names.specs.declared.known.KnownItem.{KnownItem}
@@ -31,3 +32,7 @@ IsToldWholeItem item = IsToldWhole (picture_text item.source.entry.now.clauses) 
 abbrev pub seen_name : Option (Bor ByteText) → Option (List ℕ)
 seen_name None = None
 seen_name (Some name) = Some name.now
+
+-- references that are lent
+abbrev pub seen_references : List (Bor Reference) → List Reference
+seen_references references = map (λ reference. reference.now) references

@@ -1,14 +1,17 @@
-ghost use Rattle.std.specs.Prelude.{◌≡◌, ◌||◌, false, ℕ, List, IfOk, OnOk};
+ghost use Rattle.std.specs.Prelude.{◌≡◌, ℕ, List, IfOk, OnOk};
+ghost use Rattle.std.specs.List.{list_any};
+ghost use Rattle.std.specs.Option.{option_copied};
 ghost use Rattle.std.specs.Str.{bytes_eq};
-ghost use Rattle.data_names.specs.Names.{in_small};
-ghost use Rattle.data_names.specs.Asked.{is_asked, AreStillAsked};
+ghost use Rattle.data_names.specs.Names.{in_small, pair_key};
+ghost use Rattle.data_names.specs.Asked.{is_asked, name_asks, subscript_asks, asks, any_asks, AreAskedBy, AreAskedWith};
+ghost use Rattle.data_names.specs.Seen.{seen_references};
 
 use crate::names::{Names, folded, pair_key};
 use cob_base::{ByteText, NoMemory, Reference, Subscript};
 use std::alloc::Global;
 use std::collections::BTreeSet;
 
-/// How many have to share a name for its pairs to be asked for.
+/// How many have to share a name for its pairs to be asked for: a list that is shorter is gone through as fast.
 const MANY: usize = 8;
 
 /// The names that references with qualifiers ask for, and the pairs of each with the name of a group, in small letters. What is asked for
@@ -19,13 +22,21 @@ pub struct AskedPairs {
 }
 
 impl AskedPairs {
-    /// None.
-    pub fn none(alloc: Global) -> AskedPairs
-        ensures { (key : List ℕ) → is_asked result key ≡ false }
+    /// What references ask for, where these are the names of what they refer to.
+    pub fn of(
+        alloc: Global,
+        names: &Names,
+        references: &[&Reference],
+    ) -> Result<AskedPairs, NoMemory>
+        ensures { IfOk result (λ asked. AreAskedBy asked (any_asks names.now (seen_references references.entry.now))) }
     {
-        AskedPairs {
+        let mut asked = AskedPairs {
             keys: BTreeSet::new(alloc),
+        };
+        for reference in references {
+            asked.ask(alloc, names, *reference)?;
         }
+        Ok(asked)
     }
 
     /// Whether a key is asked for.
@@ -43,44 +54,10 @@ impl AskedPairs {
         Ok(self.has(key.as_slice()))
     }
 
-    /// Asks for what references ask for.
-    pub fn ask_all(
-        &mut self,
-        alloc: Global,
-        names: &Names,
-        references: &[&Reference],
-    ) -> Result<(), NoMemory>
-        ensures { OnOk result (AreStillAsked self.old self.new) }
-    {
-        for reference in references {
-            self.ask(alloc, names, *reference)?;
-        }
-        Ok(())
-    }
-
-    /// Asks for what a reference asks for, where there is one.
-    pub fn ask_some(
-        &mut self,
-        alloc: Global,
-        names: &Names,
-        reference: Option<&Reference>,
-    ) -> Result<(), NoMemory>
-        ensures { OnOk result (AreStillAsked self.old self.new) }
-    {
-        match reference {
-            Some(reference) => self.ask(alloc, names, reference),
-            None => Ok(()),
-        }
-    }
-
-    /// Asks for what a reference and its subscript ask for.
-    pub fn ask(
-        &mut self,
-        alloc: Global,
-        names: &Names,
-        reference: &Reference,
-    ) -> Result<(), NoMemory>
-        ensures { OnOk result (AreStillAsked self.old self.new) }
+    /// Takes in the name of a reference with each of its qualifiers, where it has some and many share the name; and the same for the item
+    /// of its subscript.
+    fn ask(&mut self, alloc: Global, names: &Names, reference: &Reference) -> Result<(), NoMemory>
+        ensures { OnOk result (AreAskedWith self.old self.new (λ key. asks names.now key reference.now)) }
     {
         self.ask_name(
             alloc,
@@ -98,7 +75,7 @@ impl AskedPairs {
         names: &Names,
         subscript: Option<&Subscript>,
     ) -> Result<(), NoMemory>
-        ensures { OnOk result (AreStillAsked self.old self.new) }
+        ensures { OnOk result (AreAskedWith self.old self.new (subscript_asks names.now (option_copied subscript.entry))) }
     {
         match subscript {
             Some(
@@ -121,7 +98,7 @@ impl AskedPairs {
         name: &ByteText,
         qualifiers: &[ByteText],
     ) -> Result<(), NoMemory>
-        ensures { OnOk result (AreStillAsked self.old self.new) }
+        ensures { OnOk result (AreAskedWith self.old self.new (name_asks names.now name.now qualifiers.now)) }
     {
         if qualifiers.is_empty() {
             return Ok(());
@@ -142,7 +119,7 @@ impl AskedPairs {
         name: &ByteText,
         qualifiers: &[ByteText],
     ) -> Result<(), NoMemory>
-        ensures { OnOk result (AreStillAsked self.old self.new) }
+        ensures { OnOk result (AreAskedWith self.old self.new (λ key. list_any (λ qualifier. bytes_eq key (pair_key name.now qualifier)) qualifiers.now)) }
     {
         for qualifier in qualifiers {
             let key = pair_key(alloc, name.as_bytes(), qualifier.as_bytes())?;
@@ -153,7 +130,7 @@ impl AskedPairs {
 
     /// Takes in a key.
     fn note(&mut self, key: Vec<u8>) -> Result<(), NoMemory>
-        ensures { OnOk result ((other : List ℕ) → is_asked self.new other ≡ (is_asked self.old other || bytes_eq other key.items)) }
+        ensures { OnOk result (AreAskedWith self.old self.new (λ other. bytes_eq other key.items)) }
     {
         self.keys.insert(key)?;
         Ok(())

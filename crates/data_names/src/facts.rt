@@ -21,7 +21,7 @@ use std::alloc::Global;
 /// What an item's surroundings say of it.
 #[derive(Debug, Drop)]
 pub struct Facts<'a> {
-    /// The number of the innermost group that it is in.
+    /// The number of the innermost group that it is in; None where it is in none.
     pub parent: Option<u32>,
     /// The names of the groups that it is in, from the inside out.
     pub groups: Vec<Option<&'a ByteText>>,
@@ -37,11 +37,11 @@ pub struct Facts<'a> {
     pub in_record: bool,
     /// Whether no size in it hangs on a text that is no picture.
     pub sized: bool,
-    /// The bytes of one occurrence, as far as they are counted.
+    /// The bytes of one occurrence, 2^64 - 1 at most, where the count stands still.
     pub bytes: u64,
-    /// The bytes before it, as far as they are counted.
+    /// The bytes before it, 2^64 - 1 at most.
     pub before: u64,
-    /// The bytes up to its end, as far as they are counted.
+    /// The bytes up to its end, 2^64 - 1 at most.
     pub after: u64,
     /// How many elementary items with bytes stand before it.
     pub with_bytes_before: usize,

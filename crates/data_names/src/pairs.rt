@@ -54,7 +54,7 @@ impl Pairs {
         Ok(has)
     }
 
-    /// The numbers of the items of a name that are in a group of a name, where they were asked for.
+    /// The numbers of the items of a name that are in a group of a name; None where the pair was not asked for.
     pub fn numbers(
         &self,
         alloc: Global,
@@ -131,7 +131,7 @@ fn put_name(
 }
 
 /// Puts a number under a name with each of the names of some groups, where the pair is asked for, behind those there and once under each
-/// pair.
+/// pair. It is the last number under no key yet.
 pub fn put_in_groups(
     alloc: Global,
     numbers: &mut Names,

@@ -37,7 +37,7 @@ impl Found {
     }
 }
 
-/// The items of a program with what their surroundings say, and their names.
+/// The items of a program with what their surroundings say, and their names. All are of the same items, which are numbered from 0.
 #[derive(Clone, Copy)]
 pub struct Table<'a> {
     pub items: &'a [KnownItem<'a>],
@@ -105,7 +105,7 @@ impl Table<'_> {
         }
     }
 
-    /// The item of this number.
+    /// The item of this number, which is below the count of items.
     pub fn item_at(&self, at: usize) -> KnownItem<'_>
         requires { at < length self.now.items.now }
         ensures { (spot : Spot DataItem) → slice_get (spots (items_of self.entry.now)) at ≡ Some spot → spot.item ≡ seen_item result }
@@ -113,7 +113,7 @@ impl Table<'_> {
         self.items[at]
     }
 
-    /// What the surroundings of the item of this number say of it.
+    /// What the surroundings of the item of this number say of it. The number is below the count of items.
     pub fn facts_at(&self, at: usize) -> &Facts<'_>
         requires table { IsTable self.now }
         requires within { at < length self.now.items.now }

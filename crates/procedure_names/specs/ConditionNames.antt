@@ -1,12 +1,15 @@
 -- The numbers of 88 entries by their names, and by their names with each name that may qualify them, where that is asked for.
 use Rattle.std.specs.Prelude.{◌≡◌, ℕ, Bool, true, ◌&&◌, if◌then◌else◌, List, [], ◌∷◌, ◌++◌, Some}
-use Rattle.std.specs.List.{list_any}
+use Rattle.std.specs.List.{list_any, flat_map}
 use Rattle.cob_base.specs.declared.operands.Reference.{Reference}
+use Rattle.cob_base.specs.declared.paragraphs.Paragraph.{Paragraph}
 use Rattle.data_names.specs.declared.asked.AskedPairs.{AskedPairs}
 use Rattle.data_names.specs.declared.names.Names.{Names}
-use Rattle.data_names.specs.Asked.{is_asked}
+use Rattle.data_names.specs.Asked.{is_asked, any_asks, AreAskedBy}
 use Rattle.data_names.specs.Names.{in_small, is_under, numbers_from, numbers_under}
 use Rattle.data_names.specs.Pairs.{is_pair}
+use Rattle.statement_parts.specs.References.{conditions_of}
+use Rattle.statement_parts.specs.Statements.{statements}
 use Rattle.procedure_names.specs.declared.condition_names.ConditionNames.{ConditionNames}
 use Rattle.procedure_names.specs.Conditions.{NamedCondition, qualifying_names, is_condition_match}
 
@@ -32,6 +35,14 @@ ArePaired all asked numbers = (key : List ℕ) → numbers_under numbers key ≡
 pub record AreConditionNames (all : List NamedCondition) (known : ConditionNames) : Type 0 where
   pub by_name : AreNumbered all known.names
   pub by_pair : ArePaired all known.pairs.asked known.pairs.numbers
+
+-- the references of these paragraphs to 88 entries
+abbrev pub condition_references : List Paragraph → List Reference
+condition_references paragraphs = flat_map (λ one. conditions_of one.item) (statements paragraphs)
+
+-- the pairs that these references ask for are asked for, and no others
+abbrev pub AreAskedIn : List Paragraph → ConditionNames → Type 0
+AreAskedIn paragraphs known = AreAskedBy known.pairs.asked (any_asks known.names (condition_references paragraphs))
 
 -- the number is under the keys of the 88 entry's pairs that are asked for, behind those that were there
 abbrev pub IsPut : NamedCondition → AskedPairs → ℕ → Names → Names → Type 0

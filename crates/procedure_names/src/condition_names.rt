@@ -1,12 +1,14 @@
-ghost use Rattle.std.specs.Prelude.{◌≡◌, ◌<◌, ℕ, List, false, length, Some, slice_get, IfOk, OnOk};
+ghost use Rattle.std.specs.Prelude.{◌≡◌, ◌<◌, ◌++◌, ℕ, List, false, length, Some, slice_get, IfOk, OnOk};
 ghost use Rattle.std.specs.List.{AllZip};
-ghost use Rattle.data_names.specs.Asked.{is_asked, AreStillAsked};
+ghost use Rattle.data_names.specs.Asked.{is_asked};
 ghost use Rattle.data_names.specs.Items.{DataItem};
 ghost use Rattle.data_names.specs.Names.{in_small, numbers_under, ends_with};
+ghost use Rattle.data_names.specs.Seen.{seen_references};
 ghost use Rattle.data_names.specs.Spots.{spots};
 ghost use Rattle.data_names.specs.Table.{IsTable, items_of};
+ghost use Rattle.statement_parts.specs.References.{conditions_of};
 ghost use Rattle.procedure_names.specs.Conditions.{NamedCondition};
-ghost use Rattle.procedure_names.specs.ConditionNames.{AreConditionNames, AreNumbered, ArePaired, IsPut, IsPutWhereNamed, IsCover};
+ghost use Rattle.procedure_names.specs.ConditionNames.{condition_references, AreAskedIn, AreConditionNames, AreNumbered, ArePaired, IsPut, IsPutWhereNamed, IsCover};
 ghost use Rattle.procedure_names.specs.SeenConditions.{IsKnownCondition};
 
 use crate::conditions::KnownCondition;
@@ -32,10 +34,12 @@ impl ConditionNames {
     ) -> Result<ConditionNames, NoMemory>
         requires table { IsTable table.now }
         requires known { (named : List NamedCondition) × AllZip (IsKnownCondition (items_of table.now)) all.now named }
-        ensures { (named : List NamedCondition) → AllZip (IsKnownCondition (items_of table.now)) all.now named → IfOk result (λ names. AreConditionNames named names) }
+        ensures names { (named : List NamedCondition) → AllZip (IsKnownCondition (items_of table.now)) all.now named → IfOk result (λ names. AreConditionNames named names) }
+        ensures asked { IfOk result (AreAskedIn paragraphs.now) }
     {
         let names = names_of(alloc, all)?;
-        let asked = asked_pairs(alloc, &names, paragraphs)?;
+        let references = condition_references(alloc, paragraphs)?;
+        let asked = AskedPairs::of(alloc, &names, references.as_slice())?;
         let numbers = numbers_of(alloc, table, all, &asked)?;
         let pairs = Pairs::with(asked, numbers);
         Ok(ConditionNames { names, pairs })
@@ -73,30 +77,32 @@ fn names_of(alloc: Global, all: &[KnownCondition]) -> Result<Names, NoMemory>
     Ok(names)
 }
 
-/// What the statements of paragraphs ask for.
-fn asked_pairs(
+/// The references of the statements of paragraphs to 88 entries.
+fn condition_references<'a>(
     alloc: Global,
-    names: &Names,
-    paragraphs: &[Paragraph],
-) -> Result<AskedPairs, NoMemory> {
-    let mut asked = AskedPairs::none(alloc);
+    paragraphs: &'a [Paragraph],
+) -> Result<Vec<&'a Reference>, NoMemory>
+    ensures { IfOk result (λ made. seen_references made.items ≡ condition_references paragraphs.entry.now) }
+{
     let statements = all_statements(alloc, paragraphs)?;
+    let mut all = Vec::new(alloc);
     for one in statements.as_slice() {
-        ask_statement(alloc, &mut asked, names, *one)?;
+        add_conditions(alloc, &mut all, *one)?;
     }
-    Ok(asked)
+    Ok(all)
 }
 
-fn ask_statement(
+fn add_conditions<'a>(
     alloc: Global,
-    asked: &mut AskedPairs,
-    names: &Names,
-    one: &Located<Statement>,
+    all: &mut Vec<&'a Reference>,
+    one: &'a Located<Statement>,
 ) -> Result<(), NoMemory>
-    ensures { OnOk result (AreStillAsked asked.old asked.new) }
+    ensures { OnOk result (seen_references all.exit.now.items ≡ seen_references all.entry.now.items ++ conditions_of one.entry.now.item) }
 {
     let conditions = conditions_of(alloc, &one.item)?;
-    asked.ask_all(alloc, names, conditions.as_slice())?;
+    for condition in conditions.as_slice() {
+        all.push(*condition)?;
+    }
     Ok(())
 }
 

@@ -7,6 +7,7 @@ ghost use Rattle.data_names.specs.Spots.{Spot, spots};
 ghost use Rattle.data_names.specs.Seen.{seen_name};
 ghost use Rattle.data_names.specs.References.{is_called, is_qualified, names_around};
 ghost use Rattle.data_names.specs.Table.{IsTable, items_of};
+ghost use Rattle.procedure_names.specs.ConditionNames.{AreAskedIn};
 ghost use Rattle.procedure_names.specs.Conditions.{NamedCondition, condition_on, conditions, conditions_after};
 ghost use Rattle.procedure_names.specs.SeenConditions.{IsSpotAt, IsKnownCondition, IsStepTo, AreConditions, IsFoundCondition, IsAmongConditions, is_choice};
 
@@ -112,7 +113,8 @@ impl<'a> Conditions<'a> {
     ) -> Result<Conditions<'a>, NoMemory>
         requires table { IsTable table.now }
         requires items { AreDataItems front.now (items_of table.now) }
-        ensures { IfOk result (λ known. AreConditions front.entry.now (items_of table.now) known) }
+        ensures conditions { IfOk result (λ known. AreConditions front.entry.now (items_of table.now) known) }
+        ensures asked { IfOk result (λ known. AreAskedIn paragraphs.now known.names) }
     {
         let _count = table.items.len();
         let all = conditions_of(alloc, front)?;

@@ -1,5 +1,7 @@
 ghost use Rattle.std.specs.Prelude.{◌≡◌, List, IfOk};
 ghost use Rattle.data_layout.specs.declared.layout.Item.{Item};
+ghost use Rattle.data_names.specs.Asked.{any_asks, AreAskedBy};
+ghost use Rattle.data_names.specs.Seen.{seen_references};
 ghost use Rattle.screen_names.specs.Names.{only_item};
 ghost use Rattle.screen_names.specs.Directory.{IsDirectory, AreCandidates};
 
@@ -19,22 +21,24 @@ pub struct Directory {
 }
 
 impl Directory {
-    /// The names of these items, for these references.
+    /// The names of these items, put in order for these references, which decide what a look-up costs and no answer.
     pub fn of(
         alloc: Global,
         items: &[Item],
         references: &[&Reference],
     ) -> Result<Directory, NoMemory>
-        ensures { IfOk result (λ directory. IsDirectory items.now directory) }
+        ensures directory { IfOk result (λ directory. IsDirectory items.now directory) }
+        ensures asked { IfOk result (λ directory. AreAskedBy directory.pairs.asked (any_asks directory.names (seen_references references.entry.now))) }
     {
         let names = names_of(alloc, items)?;
-        let asked = asked_by(alloc, &names, references)?;
+        let asked = AskedPairs::of(alloc, &names, references)?;
         let numbers = numbers_of(alloc, items, &asked)?;
         let pairs = Pairs::with(asked, numbers);
         Ok(Directory { names, pairs })
     }
 
-    /// The one item that a reference matches.
+    /// The number, from 0, of the one item that a reference with its qualifiers matches; None where it matches none or several. The
+    /// directory is that of these items.
     pub fn find(
         &self,
         alloc: Global,
@@ -65,15 +69,4 @@ impl Directory {
         }
         Ok(best)
     }
-}
-
-/// The pairs that references ask for.
-fn asked_by(
-    alloc: Global,
-    names: &Names,
-    references: &[&Reference],
-) -> Result<AskedPairs, NoMemory> {
-    let mut asked = AskedPairs::none(alloc);
-    asked.ask_all(alloc, names, references)?;
-    Ok(asked)
 }

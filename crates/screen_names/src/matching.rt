@@ -93,7 +93,7 @@ pub fn only_match(items: &[Item], reference: &Reference, numbers: &[usize]) -> O
     found
 }
 
-/// Whether neither the item nor a group around it has OCCURS.
+/// Whether neither the item of this number nor a group around it has OCCURS; true of a number that no item has.
 pub fn is_single_item(items: &[Item], number: usize) -> bool
     ensures { result ≡ is_single items.now number }
 {

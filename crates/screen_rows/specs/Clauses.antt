@@ -1,10 +1,12 @@
 -- The clauses of a screen entry. Where one stands twice, the first counts.
-use Rattle.std.specs.Prelude.{ℕ, nat_lt, Bool, true, false, List, [], ◌∷◌, count_by, Option, Some, None}
+use Rattle.std.specs.Prelude.{ℕ, nat_lt, Bool, true, false, List, [], ◌∷◌, ◌++◌, count_by, Option, Some, None, option_to_list}
 use Rattle.std.specs.List.{list_any}
 use Rattle.cob_base.specs.declared.operands.Operand.{Operand}
+use Rattle.cob_base.specs.declared.operands.Operand.TheVariants as operands
 use Rattle.cob_base.specs.declared.operands.Reference.{Reference}
 use Rattle.cob_base.specs.declared.screen_entries.ScreenClause.{ScreenClause}
 use Rattle.cob_base.specs.declared.screen_entries.ScreenClause.TheVariants as c
+use Rattle.cob_base.specs.declared.screen_entries.ScreenEntry.{ScreenEntry}
 use Rattle.cob_base.specs.declared.screen_entries.ScreenMark.{ScreenMark}
 use Rattle.cob_base.specs.declared.screen_entries.ScreenMark.TheVariants as m
 use Rattle.screen_rows.specs.declared.clauses.Look.{Look}
@@ -80,6 +82,15 @@ abbrev pub using_reference : List ScreenClause → Option Reference
 using_reference [] = None
 using_reference (c.Using reference ∷ rest) = Some reference
 using_reference (_ ∷ rest) = using_reference rest
+
+abbrev pub reference_in : Option Operand → List Reference
+reference_in None = []
+reference_in (Some (operands.Reference reference)) = reference ∷ []
+reference_in (Some (operands.Constant constant)) = []
+
+-- the references of an entry
+abbrev pub references_of : ScreenEntry → List Reference
+references_of entry = reference_in (from_operand entry.clauses) ++ option_to_list (to_reference entry.clauses) ++ option_to_list (using_reference entry.clauses)
 
 -- ---- a clause twice
 

@@ -16,7 +16,9 @@ pub struct Look {
     pub required: bool,
     pub full: bool,
     pub auto: bool,
+    /// The number after FOREGROUND-COLOR, which may be past 7.
     pub front: Option<u64>,
+    /// The number after BACKGROUND-COLOR, which may be past 7.
     pub back: Option<u64>,
 }
 

@@ -7,7 +7,7 @@ use picture_rule::Picture;
 pub struct ScreenRow {
     /// The line of the entry's first word.
     pub line: Line,
-    /// 1 to 49, or 77.
+    /// The level as the entry has it; 1 to 49, or 77, where a text was read.
     pub level: u8,
     /// Whether members follow it.
     pub group: bool,
@@ -22,8 +22,10 @@ pub struct ScreenRow {
 #[derive(Debug, Drop)]
 pub struct Content {
     pub name: Option<ByteText>,
+    /// Its picture; None where it has none, or one that is refused.
     pub picture: Option<Picture>,
     pub show: Show,
+    /// The number, from 0, of the item of the layout that TO or USING fills.
     pub into: Option<u32>,
 }
 

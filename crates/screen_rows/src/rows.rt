@@ -23,7 +23,7 @@ pub struct ScreenRows {
     pub contents: Vec<Content>,
 }
 
-/// The rows of all entries.
+/// A row and a content for each entry, in their order. It asks nothing of the entries and the layout.
 pub fn read_rows(
     alloc: Global,
     layout: &Layout,
