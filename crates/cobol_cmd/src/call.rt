@@ -179,7 +179,8 @@ fn answer<H: Shelf, K: Sink>(alloc: Global, words: &[String], shelf: &mut H, out
 /// | 9 | want of memory |
 ///
 /// The answers 3, 5 and 8 are exact over a shelf that tells what it holds, and yield to 6 and 9. With 2, 3, 5, 6 and 8 one
-/// line is put; should that fail, the status stays. The shelf never changes. The call waits for nobody and always returns.
+/// line is put; should that fail, the status stays. At 0 the sink took the whole output, at 7 a prefix of it, at 9 nothing. The
+/// shelf never changes. The call waits for nobody and always returns.
 pub fn cobol_plain<H: Shelf, K: Sink>(
     alloc: Global,
     words: &[String],

@@ -14,10 +14,12 @@ pub enum ProgramFault {
     /// The lines are good, and a word is at fault.
     #[error(transparent)]
     Words(WordFault),
-    /// The words are good, and an entry that begins in this line is at fault, or the last word or entry does.
+    /// The words are good. The line is that of the last word, where it is no separator period; else of the first entry that does not
+    /// fit; else, where more must follow, of the last entry, or 1 where there is none. For `show` it is 1, where the words are no small
+    /// program.
     #[error("line {}: an entry that does not fit, or after which more must follow", .0.0)]
     Entries(Line),
-    /// The words are good, and an entry that begins in this line nests statements and parentheses too deep.
+    /// The words are good, and the first entry that does not fit, which begins in this line, opens a 51st statement or parenthesis.
     #[error("line {}: statements and parentheses nest too deep", .0.0)]
     Nesting(Line),
     /// The entries are a program, which breaks the rule of this number, from 1 to 13, in an entry, statement or paragraph header

@@ -132,7 +132,8 @@ fn program_of_text(alloc: Global, text: &[u8]) -> Result<Program, ProgramFault>
 }
 
 /// Reads the text of a program and checks it: the program with its layout, the plans of its screens and the shapes of its files, or
-/// the first pass that refuses it, with the line and, where the pass has several, the reason.
+/// the first pass that refuses it, with the line and, where the pass has several, the reason; or memory ran out. The text has fewer
+/// than 2^31 bytes.
 pub fn read_program(alloc: Global, text: &[u8]) -> Result<Checked, ProgramFault>
     requires { length text.now < 2 ^ 31 }
     ensures program { IfOk result (λ checked. HasProgram text.now checked.program × IsInProfile (seen_checked checked)) }

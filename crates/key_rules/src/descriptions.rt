@@ -20,9 +20,9 @@ use std::collections::BTreeMap;
 pub struct Description {
     /// How many descriptions stand before it.
     pub number: usize,
-    /// The number of its record among the items; None where its first item is not of level 01.
+    /// The number, from 0, of its record among the items; None where its first item is not of level 01.
     pub record: Option<usize>,
-    /// The number of the first item under it whose size is not known; None where every size is.
+    /// The number, from 0, of the first item under it whose size is not known; None where every size is.
     pub unsized_at: Option<usize>,
 }
 
@@ -45,7 +45,7 @@ impl Descriptions {
         })
     }
 
-    /// What is known of the description of a file: the first of its name.
+    /// What is known of the description of a file: the first of its name; None where none has it.
     pub fn of_file(&self, alloc: Global, file: &FileEntry) -> Result<Option<Description>, NoMemory>
         ensures { (front : Front) (items : List DataItem) → AreDescriptions front items self.now → IfOk result (λ known. IsDescriptionOf front items file.now.name known) }
     {

@@ -364,7 +364,8 @@ fn note_keys(
     Ok(())
 }
 
-/// Notes each file whose keys are not as they must be.
+/// Notes reason 7 at the line of each file control entry whose keys are missing or too many, are none of its record's, or lie at one
+/// place. The table and the descriptions are those of the front.
 pub fn note_bad_keys(
     alloc: Global,
     faults: &mut Faults,

@@ -61,7 +61,7 @@ pub record IsOpeningOf (front : Front) (layout : Layout) (bytes : List ℕ) : Ty
 
 -- ---- what may be asked for
 
--- A numeric or edited item can open with a number and with ZERO, any other with every constant but a number.
+-- Any item can open with a text and with ZERO, a numeric or edited item with a number, any other with the other figurative constants.
 abbrev pub can_hold : PictureValue → Option Constant → Bool
 can_hold p None = true
 can_hold p (Some (c.Text text)) = true

@@ -34,8 +34,8 @@ fn do_all_hold(items: &[KnownItem], places: &[Item]) -> bool
     true
 }
 
-/// Whether each item of a front can open with its VALUE: a number and ZERO fit numeric and edited items, every constant but a
-/// number fits the others.
+/// Whether each item of a front can open with its VALUE: any item with a text or with ZERO, a numeric or edited item with a number, any
+/// other with the other figurative constants.
 pub fn can_open(alloc: Global, front: &Front, layout: &Layout) -> Result<bool, NoMemory>
     ensures { IfOk result (λ can. IsTrue can ↔ CanOpen front.now layout.now) }
 {

@@ -35,7 +35,7 @@ fn shown_marks(
 
 /// A mark for each of so many paragraphs, set where it leads back to itself by arrows, which go between these paragraphs.
 ///
-/// A search finds the marks in time that grows with the paragraphs and arrows, and with each mark a reason. The reasons are tested;
+/// A search finds the marks, and with each a reason. The reasons are tested;
 /// should they not hold, each paragraph is looked at by itself.
 pub fn on_cycles(alloc: Global, count: usize, arrows: &[Arrow]) -> Result<Vec<bool>, NoMemory>
     requires { AreWithin count arrows.now }
